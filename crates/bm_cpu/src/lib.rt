@@ -1,0 +1,4 @@
+//! Machines that run compiled servers.
+#![tactic(auto)]
+
+pub mod first;

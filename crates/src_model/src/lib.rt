@@ -1,0 +1,4 @@
+//! What programs mean.
+#![tactic(auto)]
+
+pub mod first;
