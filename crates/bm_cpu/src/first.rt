@@ -188,10 +188,27 @@ mod tests {
             Op::Only,
             Operand::Number(0),
         );
-        let mut acts = vec![in alloc; subtract, show]?;
-        for _ in 0..17 {
-            acts.push(Act::Send)?;
-        }
+        let acts = vec![in alloc;
+            subtract,
+            show,
+            Act::Send,
+            Act::Send,
+            Act::Send,
+            Act::Send,
+            Act::Send,
+            Act::Send,
+            Act::Send,
+            Act::Send,
+            Act::Send,
+            Act::Send,
+            Act::Send,
+            Act::Send,
+            Act::Send,
+            Act::Send,
+            Act::Send,
+            Act::Send,
+            Act::Send,
+        ]?;
         let mut machine = FirstMachine::load(alloc, &Straight { globals: 1, acts })?;
         let mut out = Vec::new(alloc);
         for (arg, shown) in [(5, -5), (i32::MAX, i32::MAX - 3), (-7, i32::MIN + 3)] {

@@ -1,4 +1,4 @@
-use Rattle.std.proofs.Common.{◌≡◌, rules}
+use Rattle.std.proofs.Common.{rules}
 use Rattle.bm_cpu.proofs.WordLemmas.{word_value-word_bytes}
 use Rattle.bm_cpu.proofs.first.store_word.Goals as goal
 
