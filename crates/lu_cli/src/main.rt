@@ -1,0 +1,47 @@
+//! Runs servers by an update plan, and prints what their clients see.
+#![tactic(auto)]
+
+mod system;
+mod top;
+
+use lu_base::{FileShelf, OutSink, Status};
+use std::env;
+use std::io;
+use std::process::ExitCode;
+use top::top;
+
+fn main(rt: HostRuntime) -> io::Result<ExitCode> {
+    let status = match words(&rt) {
+        Ok(words) => top(
+            rt.alloc(),
+            words.as_slice(),
+            &mut FileShelf::new(&rt),
+            &mut OutSink::new(&rt),
+        ),
+        Err(_) => Status::Memory,
+    };
+    if let Some(text) = message(status) {
+        eprintln!(rt; "{text}")?;
+    }
+    Ok(ExitCode::from(status.code()))
+}
+
+// The words behind the program's name.
+fn words(rt: &HostRuntime) -> io::Result<Vec<String>> {
+    let mut words = Vec::new(rt.alloc());
+    for word in env::args(rt)?.skip(1) {
+        words.push(word)?;
+    }
+    Ok(words)
+}
+
+// What goes to standard error.
+fn message(status: Status) -> Option<&'static str> {
+    match status {
+        Status::Usage => Some("usage: lu_cli run|check|pair PLAN, or lu_cli gen N"),
+        Status::ReadFault => Some("read fault"),
+        Status::WriteFault => Some("write fault"),
+        Status::Memory => Some("out of memory"),
+        Status::Done | Status::Refused => None,
+    }
+}

@@ -1,0 +1,14 @@
+//! Setups of the first form: one straight-line server, and a schedule of sends and drains.
+#![tactic(auto)]
+
+mod bytes;
+mod load;
+mod number;
+mod pieces;
+mod plan;
+mod schedule;
+mod setup;
+mod source;
+
+pub use load::{LoadError, load};
+pub use setup::{Event, Setup};
