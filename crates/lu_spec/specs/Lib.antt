@@ -1,0 +1,6 @@
+pub mod Answer
+pub mod Fault
+pub mod LittleEndian
+pub mod Prefix
+pub mod Splice
+pub mod Then
