@@ -1,3 +1,6 @@
 pub mod FaultLemmas
 pub mod PrefixLemmas
+pub mod LittleEndianLemmas
+pub mod PrefixLemmas
+pub mod SpliceLemmas
 pub mod ThenLemmas

@@ -1,4 +1,7 @@
 pub mod Answer
 pub mod Fault
 pub mod Prefix
+pub mod LittleEndian
+pub mod Prefix
+pub mod Splice
 pub mod Then

@@ -1,0 +1,46 @@
+-- A table of objects, as the list of its rows.
+use Rattle.std.specs.Prelude.{◌≡◌, ℕ, ◌+◌, ◌*◌, ◌/◌, ◌<◌, ◌^◌, Bool, false, ◌&&◌, nat_le, if◌then◌else◌, ◌==◌, List, [], ◌∷◌, All, map}
+use Rattle.std.specs.List.{AllPairs}
+use Rattle.bm_objects.specs.declared.row.Row.{Row}
+
+-- the address behind the last byte
+abbrev pub end_of : Row → ℕ
+end_of row = row.addr + row.size
+
+-- the address is one of the row's bytes, or its end
+abbrev pub reaches : ℕ → Row → Bool
+reaches addr row = nat_le row.addr addr && nat_le addr (end_of row)
+
+-- each row ends before the next begins, and the last before the end of memory
+pub record IsTable (rows : List Row) : Type 0 where
+  pub ends : All (λ row. end_of row < 2 ^ 32) rows
+  pub apart : AllPairs (λ row later. end_of row < later.addr) rows
+
+-- a row, dead if it begins at the address
+abbrev pub killed_at : ℕ → Row → Row
+killed_at addr row = if row.addr == addr then record row { live = false } else row
+
+-- the rows, with the one that begins at the address dead
+abbrev pub killed : List Row → ℕ → List Row
+killed rows addr = map (killed_at addr) rows
+
+-- the address of an object after another: 16 bytes behind its end, rounded up to a multiple of 16
+abbrev pub address_after : Row → ℕ
+address_after row = (end_of row + 16 + 15) / 16 * 16
+
+-- the address of the object after these, where that of the first is given
+abbrev pub next_from : ℕ → List Row → ℕ
+next_from first [] = first
+next_from first (row ∷ rows) = next_from (address_after row) rows
+
+-- the address of the next object of a process
+abbrev pub next_address : List Row → ℕ
+next_address rows = next_from 0x1000 rows
+
+-- each object stands where those before it leave off
+abbrev pub IsPlacedFrom : ℕ → List Row → Type 0
+IsPlacedFrom first [] = Unit {0}
+IsPlacedFrom first (row ∷ rows) = (row.addr ≡ first) × IsPlacedFrom (address_after row) rows
+
+abbrev pub IsPlaced : List Row → Type 0
+IsPlaced rows = IsPlacedFrom 0x1000 rows
