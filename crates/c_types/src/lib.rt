@@ -1,0 +1,6 @@
+//! Types of C that name each other by number, their layout, and the places of an object.
+#![tactic(auto)]
+
+pub mod parts;
+pub mod path;
+pub mod sequence;
