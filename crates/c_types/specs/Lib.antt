@@ -1,1 +1,7 @@
 pub mod Tables
+pub mod Numbering
+pub mod Chain
+pub mod Recursion
+pub mod Layout
+pub mod Place
+pub mod Refusal
