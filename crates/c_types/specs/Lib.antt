@@ -5,3 +5,4 @@ pub mod Recursion
 pub mod Layout
 pub mod Place
 pub mod Refusal
+pub mod Entries

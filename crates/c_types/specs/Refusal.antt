@@ -27,10 +27,16 @@ Clashes (tag_entry a) (tag_entry b) = a.tag ≡ b.tag
 Clashes (signature_entry a) (signature_entry b) = a ≡ b
 Clashes _ _ = ⊥
 
+abbrev pub HaveOneName : List FieldDef → ℕ → ℕ → Type 0
+HaveOneName fields j k = IsSomeAnd (slice_get fields j) (λ a. IsSomeAnd (slice_get fields k) (λ b. a.name ≡ b.name))
+
+-- field k has the name of an earlier one
+abbrev pub HasNameBefore : List FieldDef → ℕ → Type 0
+HasNameBefore fields k = (j : ℕ) × (j < k) × HaveOneName fields j k
+
 -- two fields have one name
 abbrev pub NamesTwice : List FieldDef → Type 0
-NamesTwice fields =
-    (j : ℕ) × (k : ℕ) × (j < k) × IsSomeAnd (slice_get fields j) (λ a. IsSomeAnd (slice_get fields k) (λ b. a.name ≡ b.name))
+NamesTwice fields = (k : ℕ) × HasNameBefore fields k
 
 abbrev pub HasNameTwice : Entry → Type 0
 HasNameTwice (tag_entry tag) = NamesTwice tag.fields
