@@ -1,5 +1,5 @@
 -- Size, alignment and offsets, all in bytes, by recursion on types. `w` is the size of a pointer.
-use Rattle.std.specs.Prelude.{◌≡◌, ℕ, zero, suc, ◌+◌, ◌-◌, ◌*◌, ◌/◌, max, List, [], ◌∷◌, Option, Some, None}
+use Rattle.std.specs.Prelude.{◌≡◌, ℕ, zero, suc, ◌+◌, ◌-◌, ◌*◌, ◌/◌, ◌^◌, max, List, [], ◌∷◌, Option, Some, None}
 use Rattle.c_types.specs.declared.parts.IntKind.{IntKind}
 use Rattle.c_types.specs.declared.parts.IntKind.TheVariants.{Char, UChar, Short, UShort, Int as Int_kind, UInt, LongLong, ULongLong}
 use Rattle.c_types.specs.declared.parts.Ty.{Ty}
@@ -9,6 +9,10 @@ use Rattle.c_types.specs.declared.parts.Parts.{Parts}
 use Rattle.c_types.specs.declared.shape.Shape.{Shape}
 use Rattle.c_types.specs.Tables.{fields_of, members_of}
 use Rattle.c_types.specs.Recursion.{by_type}
+
+-- the greatest size of a type, and the greatest length of an array
+abbrev pub greatest : ℕ
+greatest = 2 ^ 20
 
 abbrev pub shape : ℕ → ℕ → Shape
 shape size align = record { size = size; align = align }

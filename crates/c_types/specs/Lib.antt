@@ -6,3 +6,4 @@ pub mod Layout
 pub mod Place
 pub mod Refusal
 pub mod Entries
+pub mod Rounds

@@ -1,5 +1,5 @@
 -- When a table is refused: the first cause that applies, each with the least number.
-use Rattle.std.specs.Prelude.{◌≡◌, ◌⊎◌, ℕ, ◌+◌, ◌<◌, ◌^◌, Bool, true, false, ◌&&◌, ◌||◌, not, nat_lt, nat_le, IsTrue, List, [], ◌∷◌, ◌++◌, map, length, Option, Some, None, IsSomeAnd, slice_get}
+use Rattle.std.specs.Prelude.{◌≡◌, ◌⊎◌, ℕ, ◌+◌, ◌<◌, Bool, true, false, ◌&&◌, ◌||◌, not, nat_lt, nat_le, IsTrue, List, [], ◌∷◌, ◌++◌, map, length, Option, Some, None, IsSomeAnd, slice_get}
 use Rattle.c_types.specs.declared.parts.Ty.{Ty}
 use Rattle.c_types.specs.declared.parts.Ty.TheVariants.{Array}
 use Rattle.c_types.specs.declared.parts.TagDef.{TagDef}
@@ -8,7 +8,7 @@ use Rattle.c_types.specs.declared.parts.Signature.{Signature}
 use Rattle.c_types.specs.declared.parts.Parts.{Parts}
 use Rattle.c_types.specs.Numbering.{is_well_numbered}
 use Rattle.c_types.specs.Chain.{IsCyclic}
-use Rattle.c_types.specs.Layout.{size_of}
+use Rattle.c_types.specs.Layout.{greatest, size_of}
 
 pub data Entry : Type 0 where
   type_entry : Ty → Entry
@@ -54,10 +54,6 @@ HasNoField _ = ⊥
 
 abbrev pub IsEmpty : Parts → ℕ → Type 0
 IsEmpty p n = IsSomeAnd (slice_get (entries p) n) HasNoField
-
--- the greatest size of a type and length of an array
-abbrev pub greatest : ℕ
-greatest = 2 ^ 20
 
 abbrev pub has_bad_length : Option Ty → Bool
 has_bad_length (Some (Array t n)) = not (nat_lt 0 n && nat_le n greatest)
