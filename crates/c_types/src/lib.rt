@@ -5,5 +5,6 @@ pub mod duplicates;
 pub mod numbering;
 pub mod parts;
 pub mod path;
+pub mod rounds;
 pub mod sequence;
 pub mod shape;
