@@ -1,4 +1,7 @@
+pub mod Acyclic
+pub mod ChainLemmas
 pub mod Lists
+pub mod MarkLemmas
 pub mod Numbered
 pub mod RoundLemmas
 pub mod Shapes

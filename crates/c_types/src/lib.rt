@@ -1,6 +1,7 @@
 //! Types of C that name each other by number, their layout, and the places of an object.
 #![tactic(auto)]
 
+pub mod cycles;
 pub mod duplicates;
 pub mod numbering;
 pub mod parts;

@@ -69,6 +69,16 @@ pub struct Parts {
 }
 
 impl Parts {
+    /// The type of a number; none where there is no such type.
+    pub fn find_type(&self, number: TyId) -> Option<Ty>
+        ensures { result ≡ slice_get self.now.types number }
+    {
+        match self.types.as_slice().get(number as usize) {
+            None => None,
+            Some(ty) => Some(*ty),
+        }
+    }
+
     /// The fields of a struct; none where there is no such struct.
     pub fn fields_of(&self, number: u32) -> &[FieldDef]
         ensures { result.now ≡ fields_of self.now number }
