@@ -1,4 +1,5 @@
 pub mod Acyclic
+pub mod Capped
 pub mod ChainLemmas
 pub mod Lists
 pub mod MarkLemmas

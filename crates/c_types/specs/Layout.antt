@@ -1,5 +1,5 @@
 -- Size, alignment and offsets, all in bytes, by recursion on types. `w` is the size of a pointer.
-use Rattle.std.specs.Prelude.{◌≡◌, ℕ, zero, suc, ◌+◌, ◌-◌, ◌*◌, ◌/◌, ◌^◌, max, List, [], ◌∷◌, Option, Some, None}
+use Rattle.std.specs.Prelude.{◌≡◌, ◌⊎◌, ℕ, zero, suc, ◌+◌, ◌-◌, ◌*◌, ◌/◌, ◌^◌, max, List, [], ◌∷◌, Option, Some, None}
 use Rattle.c_types.specs.declared.parts.IntKind.{IntKind}
 use Rattle.c_types.specs.declared.parts.IntKind.TheVariants.{Char, UChar, Short, UShort, Int as Int_kind, UInt, LongLong, ULongLong}
 use Rattle.c_types.specs.declared.parts.Ty.{Ty}
@@ -30,6 +30,10 @@ int_size Int_kind = 4
 int_size UInt = 4
 int_size LongLong = 8
 int_size ULongLong = 8
+
+-- a pointer takes 4 or 8 bytes
+abbrev pub IsPointerSize : ℕ → Type 0
+IsPointerSize w = (w ≡ 4) ⊎ (w ≡ 8)
 
 -- the shapes of the types by number
 abbrev pub Shapes : Type 0
