@@ -1,6 +1,7 @@
 pub mod Acyclic
 pub mod Capped
 pub mod ChainLemmas
+pub mod KeptLemmas
 pub mod Lists
 pub mod MarkLemmas
 pub mod Numbered

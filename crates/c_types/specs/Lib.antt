@@ -7,3 +7,4 @@ pub mod Place
 pub mod Refusal
 pub mod Entries
 pub mod Rounds
+pub mod Kept

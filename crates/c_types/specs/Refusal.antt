@@ -6,6 +6,8 @@ use Rattle.c_types.specs.declared.parts.TagDef.{TagDef}
 use Rattle.c_types.specs.declared.parts.FieldDef.{FieldDef}
 use Rattle.c_types.specs.declared.parts.Signature.{Signature}
 use Rattle.c_types.specs.declared.parts.Parts.{Parts}
+use Rattle.c_types.specs.declared.errors.BuildError.{BuildError}
+use Rattle.c_types.specs.declared.errors.BuildError.TheVariants.{Duplicate, Empty, Cycle, TooBig, Memory}
 use Rattle.c_types.specs.Numbering.{is_well_numbered}
 use Rattle.c_types.specs.Chain.{IsCyclic}
 use Rattle.c_types.specs.Layout.{greatest, size_of}
@@ -82,3 +84,11 @@ pub record IsBuilt (w : ℕ) (p : Parts) : Type 0 where
   pub full : NoneIs (IsEmpty p)
   pub acyclic : NoneIs (IsCyclic p)
   pub small : NoneIs (IsTooBig w p)
+
+-- a table is refused so: no earlier cause applies, and the number is the least
+abbrev pub Refuses : ℕ → Parts → BuildError → Type 0
+Refuses w p (Duplicate n) = IsLeast (IsDuplicate p) n
+Refuses w p (Empty n) = NoneIs (IsDuplicate p) × IsLeast (IsEmpty p) n
+Refuses w p (Cycle t) = NoneIs (IsDuplicate p) × NoneIs (IsEmpty p) × IsLeast (IsCyclic p) t
+Refuses w p (TooBig t) = NoneIs (IsDuplicate p) × NoneIs (IsEmpty p) × NoneIs (IsCyclic p) × IsLeast (IsTooBig w p) t
+Refuses w p Memory = Unit {0}

@@ -3,9 +3,11 @@
 
 pub mod cycles;
 pub mod duplicates;
+pub mod errors;
 pub mod numbering;
 pub mod parts;
 pub mod path;
 pub mod rounds;
 pub mod sequence;
 pub mod shape;
+pub mod table;
