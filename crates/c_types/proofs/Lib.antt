@@ -6,4 +6,5 @@ pub mod Lists
 pub mod MarkLemmas
 pub mod Numbered
 pub mod RoundLemmas
+pub mod Settled
 pub mod Shapes
