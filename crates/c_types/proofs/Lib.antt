@@ -1,4 +1,5 @@
 pub mod Acyclic
+pub mod Alignment
 pub mod Capped
 pub mod ChainLemmas
 pub mod KeptLemmas
@@ -7,4 +8,5 @@ pub mod MarkLemmas
 pub mod Numbered
 pub mod RoundLemmas
 pub mod Settled
+pub mod ShapeLaws
 pub mod Shapes

@@ -21,6 +21,9 @@ shape size align = record { size = size; align = align }
 abbrev pub next_multiple : ℕ → ℕ → ℕ
 next_multiple n a = (n + (a - 1)) / a * a
 
+abbrev pub IsMultiple : ℕ → ℕ → Type 0
+IsMultiple n a = (q : ℕ) × (n ≡ q * a)
+
 abbrev pub int_size : IntKind → ℕ
 int_size Char = 1
 int_size UChar = 1
