@@ -2,10 +2,12 @@ pub mod Acyclic
 pub mod Alignment
 pub mod Capped
 pub mod ChainLemmas
+pub mod FieldLaws
 pub mod KeptLemmas
 pub mod Lists
 pub mod MarkLemmas
 pub mod Numbered
+pub mod PlaceLaws
 pub mod RoundLemmas
 pub mod Settled
 pub mod ShapeLaws
