@@ -7,6 +7,7 @@ pub mod KeptLemmas
 pub mod Lists
 pub mod MarkLemmas
 pub mod Numbered
+pub mod PathLaws
 pub mod PlaceLaws
 pub mod RoundLemmas
 pub mod Settled
