@@ -2,6 +2,7 @@ pub mod Acyclic
 pub mod Alignment
 pub mod Capped
 pub mod ChainLemmas
+pub mod DescentLemmas
 pub mod FieldLaws
 pub mod KeptLemmas
 pub mod Lists

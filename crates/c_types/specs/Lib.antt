@@ -8,3 +8,4 @@ pub mod Refusal
 pub mod Entries
 pub mod Rounds
 pub mod Kept
+pub mod Descent

@@ -2,6 +2,7 @@
 #![tactic(auto)]
 
 pub mod cycles;
+pub mod descent;
 pub mod duplicates;
 pub mod errors;
 pub mod numbering;
