@@ -1,6 +1,5 @@
 pub mod FaultLemmas
 pub mod PrefixLemmas
 pub mod LittleEndianLemmas
-pub mod PrefixLemmas
 pub mod SpliceLemmas
 pub mod ThenLemmas

@@ -2,6 +2,5 @@ pub mod Answer
 pub mod Fault
 pub mod Prefix
 pub mod LittleEndian
-pub mod Prefix
 pub mod Splice
 pub mod Then

@@ -1,0 +1,22 @@
+-- Where no type is too big, capped shapes are the shapes.
+use Rattle.std.proofs.Common.{◌≡◌, ◌∙◌, sym, ap, refl, ℕ, ◌<◌, ◌≤◌, ◌+◌, ◌^◌, min, Bool, true, false, ◌||◌, nat_lt, List, slice_get, arith}
+use Rattle.std.proofs.lemmas.Bool.Decides.{nat_tests}
+use Rattle.c_types.specs.declared.parts.Parts.{Parts}
+use Rattle.c_types.specs.declared.shape.Shape.{Shape}
+use Rattle.c_types.specs.Layout.{greatest, shape, size_of, align_of, shape_of}
+use Rattle.c_types.specs.Rounds.{shape_at, capped, shape_rounds}
+use Rattle.c_types.specs.Refusal.{has_bad_length, is_too_big, IsTooBig, NoneIs, IsBuilt}
+use Rattle.c_types.specs.Kept.{AreCapped, IsKept}
+
+pub size-small : (w : ℕ) (p : Parts) → NoneIs (IsTooBig w p) → (t : ℕ) → size_of w p t ≤ greatest
+size-small w p small t = by_test (nat_lt greatest (size_of w p t)) refl (small t)
+  where
+    by_test : (b : Bool) → nat_lt greatest (size_of w p t) ≡ b → (b || has_bad_length (slice_get p.types t) ≡ true → ⊥) → size_of w p t ≤ greatest
+    by_test true e h = absurd (h refl)
+    by_test false e h = grind (arith, nat_tests)
+
+pub shapes-exact : (w : ℕ) (p : Parts) (shapes : List Shape) → NoneIs (IsTooBig w p) → AreCapped w p shapes → (t : ℕ) → shape_at shapes t ≡ shape_of w p t
+shapes-exact w p shapes small each t =
+    let le = size-small w p small t in
+    let same : min (size_of w p t) (greatest + 1) ≡ size_of w p t = omega arith in
+    each t ∙ ap (λ s. shape s (align_of w p t)) same

@@ -1,0 +1,16 @@
+pub mod Acyclic
+pub mod Alignment
+pub mod Capped
+pub mod ChainLemmas
+pub mod DescentLemmas
+pub mod FieldLaws
+pub mod KeptLemmas
+pub mod Lists
+pub mod MarkLemmas
+pub mod Numbered
+pub mod PathLaws
+pub mod PlaceLaws
+pub mod RoundLemmas
+pub mod Settled
+pub mod ShapeLaws
+pub mod Shapes

@@ -1,0 +1,9 @@
+use Rattle.std.proofs.Common.{◌≡◌, ◌≤◌, length}
+use Rattle.c_types.specs.Rounds.{shape_at, shape_rounds, AreSmall}
+use Rattle.c_types.proofs.rounds.all_shapes.Given as goal
+
+abbrev pub invariant-loop : goal.invariant-loop
+invariant-loop l = record {
+  value : l.shapes.items ≡ shape_rounds 4 l.parts l.counter;
+  small : AreSmall (shape_at l.shapes.items);
+}

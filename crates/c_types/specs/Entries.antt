@@ -1,0 +1,10 @@
+-- What an entry of the code stands for.
+use Rattle.std.specs.Prelude.{ℕ, Option, slice_get}
+use Rattle.c_types.specs.declared.duplicates.Entry as Declared
+use Rattle.c_types.specs.declared.duplicates.Entry.TheVariants as V
+use Rattle.c_types.specs.Refusal.{Entry, type_entry, tag_entry, signature_entry}
+
+abbrev pub entry_of : Declared.Entry → Entry
+entry_of (V.Type a) = type_entry a.now
+entry_of (V.Tag a) = tag_entry a.now
+entry_of (V.Signature a) = signature_entry a.now

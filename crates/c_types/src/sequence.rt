@@ -1,0 +1,41 @@
+ghost use Rattle.std.specs.Prelude.{◌≡◌};
+
+use std::marker::Model;
+
+/// A `Vec` that contracts see as the list of its items.
+#[derive(Debug, Drop)]
+pub struct Sequence<T> {
+    items: Vec<T>,
+}
+
+impl<T> Model for Sequence<T> {
+    ghost use Rattle.std.specs.Prelude.{List};
+    ghost use Rattle.std.specs.Coded.{coded_list};
+
+    ghost Value = { List T };
+
+    ghost coded = { coded_list T.code };
+
+    ghost view = { λ s. s.items.items };
+}
+
+impl<T> Sequence<T> {
+    pub fn from_vec(items: Vec<T>) -> Sequence<T>
+        ensures { result ≡ items.items }
+    {
+        Sequence { items }
+    }
+
+    pub fn into_vec(self) -> Vec<T>
+        ensures { result.items ≡ self }
+    {
+        let Sequence { items } = self;
+        items
+    }
+
+    pub fn as_slice(&self) -> &[T]
+        ensures { result.now ≡ self.now }
+    {
+        self.items.as_slice()
+    }
+}
