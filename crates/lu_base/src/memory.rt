@@ -1,0 +1,3 @@
+/// Memory is wanted.
+#[derive(Debug, Drop)]
+pub struct Memory;
