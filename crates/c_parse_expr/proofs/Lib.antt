@@ -1,2 +1,4 @@
 pub mod Climb
 pub mod Turns
+pub mod Exact
+pub mod Chains

@@ -1,5 +1,5 @@
 -- What reading from the front of a text gives, and how readers are put together.
-use Rattle.std.specs.Prelude.{◌≡◌, ℕ, zero, suc, Bool, cond, List, [], ◌∷◌, ◌++◌, Option, Some, None, Result, Ok, Err}
+use Rattle.std.specs.Prelude.{◌≡◌, ℕ, zero, suc, Bool, cond, List, [], ◌∷◌, ◌++◌, length, Option, Some, None, Result, Ok, Err}
 use Rattle.c_ast.specs.declared.token.Token.{Token}
 use Rattle.c_ast.specs.declared.fault.Fault.{Fault}
 use Rattle.c_ast.specs.declared.fault.Fault.TheVariants.{Syntax, TooDeep}
@@ -70,6 +70,14 @@ at_limit begins ts = Err (limit_fault (begins ts))
 
 abbrev pub snoc : {A : Type 0} → List A → A → List A
 snoc xs x = xs ++ (x ∷ [])
+
+-- one, and then more of them while a test says so
+abbrev pub some_of : {A : Type 0} → Reader A → (List Token → Bool) → Reader A → Reader (List A)
+some_of item more step ts = item ts >>= (λ a. climb more step snoc (length a.1) (a.0 ∷ []) a.1)
+
+abbrev pub list_if_any : {A : Type 0} → Option (List A) → List A
+list_if_any None = []
+list_if_any (Some xs) = xs
 
 -- ---- what a function of src/ gives, seen by view: what reading gives, unless memory was wanted
 
