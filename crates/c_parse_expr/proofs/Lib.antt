@@ -2,3 +2,5 @@ pub mod Climb
 pub mod Turns
 pub mod Exact
 pub mod Chains
+pub mod Sorts
+pub mod TypeNames

@@ -105,8 +105,18 @@ pick_base _ = None
 unfoldable pub long_long : Reader (Unit {0} × Unit {0})
 long_long = expect_keyword k.Long ⊳ expect_keyword k.Long
 
+unfoldable pub unsigned_word : Reader UnsignedType
+unsigned_word = choose (sees_keyword k.Long) (build (λ p. u.LongLong) long_long) (one pick_unsigned)
+
+abbrev pub more_unsigned : List Token → Bool
+more_unsigned ts = sees_keyword k.Long ts || sees_one pick_unsigned ts
+
+abbrev pub plain_if_none : Option UnsignedType → UnsignedType
+plain_if_none None = u.Plain
+plain_if_none (Some w) = w
+
 unfoldable pub unsigned_rest : Reader UnsignedType
-unsigned_rest = choose (sees_keyword k.Long) (build (λ p. u.LongLong) long_long) (choose (sees_one pick_unsigned) (one pick_unsigned) (give u.Plain))
+unsigned_rest = build plain_if_none (optional more_unsigned unsigned_word)
 
 unfoldable pub unsigned_type : Reader BaseType
 unsigned_type = build (λ p. base.Unsigned p.1) (expect_keyword k.Unsigned ⊳ unsigned_rest)

@@ -52,15 +52,24 @@ fn long_long(tokens: &[Token]) -> Result<&[Token], ReadError>
     expect_keyword(Keyword::Long, tokens)
 }
 
-#[tactic(auto, unfolding(crate::specs::Reading::unsigned_rest))]
-fn unsigned_rest(tokens: &[Token]) -> Result<(UnsignedType, &[Token]), ReadError>
-    ensures { Gives (λ x. (x.0, x.1.now)) result (reading.unsigned_rest tokens.now) }
+#[tactic(auto, unfolding(crate::specs::Reading::unsigned_word))]
+fn unsigned_word(tokens: &[Token]) -> Result<(UnsignedType, &[Token]), ReadError>
+    ensures { Gives (λ x. (x.0, x.1.now)) result (reading.unsigned_word tokens.now) }
 {
     if sees_keyword(Keyword::Long, tokens) {
         let tokens = long_long(tokens)?;
         Ok((UnsignedType::LongLong, tokens))
-    } else if sees_unsigned(tokens) {
+    } else {
         one_unsigned(tokens)
+    }
+}
+
+#[tactic(auto, unfolding(crate::specs::Reading::unsigned_rest))]
+fn unsigned_rest(tokens: &[Token]) -> Result<(UnsignedType, &[Token]), ReadError>
+    ensures { Gives (λ x. (x.0, x.1.now)) result (reading.unsigned_rest tokens.now) }
+{
+    if sees_keyword(Keyword::Long, tokens) || sees_unsigned(tokens) {
+        unsigned_word(tokens)
     } else {
         Ok((UnsignedType::Plain, tokens))
     }
