@@ -4,3 +4,4 @@ pub mod Exact
 pub mod Chains
 pub mod Sorts
 pub mod TypeNames
+pub mod Exprs

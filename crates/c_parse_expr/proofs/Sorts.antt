@@ -60,6 +60,9 @@ mark_kind m = token_kind (token.Mark m)
 abbrev pub keyword_kind : Keyword → Kind (Unit {0})
 keyword_kind k = token_kind (token.Keyword k)
 
+pub token_opens : (x : Token) (u : Unit {0}) (ts : List Token) → Opens ((token_kind x).cells u) ts → Heads x ts
+token_opens x u ts o = opens_heads (x, false) [] ts o
+
 picked_true : {a : Unit {0}} (b : Bool) → picked b ≡ Some a → b ≡ true
 picked_true true e = refl
 picked_true false e = cc
@@ -170,7 +173,7 @@ loose_mark m.Arrow = inl refl
 loose_mark m.Question = inr (inl refl)
 loose_mark _ = inr (inr refl)
 
-loose_is : (t : Token) → (loose t ≡ 0) ⊎ ((loose t ≡ 12) ⊎ (loose t ≡ 13))
+pub loose_is : (t : Token) → (loose t ≡ 0) ⊎ ((loose t ≡ 12) ⊎ (loose t ≡ 13))
 loose_is (token.Mark m) = loose_mark m
 loose_is (token.Identifier x) = inr (inr refl)
 loose_is (token.Keyword x) = inr (inr refl)
