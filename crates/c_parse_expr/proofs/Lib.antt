@@ -5,3 +5,4 @@ pub mod Chains
 pub mod Sorts
 pub mod TypeNames
 pub mod Exprs
+pub mod Wholes

@@ -33,3 +33,24 @@ impl From<NoMemory> for ReadError {
         ReadError::Memory
     }
 }
+
+/// Why a text is refused, and the number of the declaration that can't be read, counted from 1.
+#[derive(Debug, Drop)]
+pub enum ParseError {
+    /// A token fits no continuation, or the text ends too early.
+    Syntax { decl: usize },
+    /// A limit of nesting, of a chain's operators, of a postfix's steps or of a type's stars is passed first.
+    TooDeep { decl: usize },
+    /// Memory is wanted.
+    Memory,
+}
+
+impl From<AllocError> for ParseError {
+    ghost use Rattle.c_parse_expr.specs.declared.error.ParseError.TheVariants.{Memory as WantedHere};
+
+    ghost from_gives = { λ _ e. e ≡ WantedHere };
+
+    fn from(_: AllocError) -> ParseError {
+        ParseError::Memory
+    }
+}

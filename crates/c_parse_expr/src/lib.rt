@@ -5,3 +5,4 @@ pub mod error;
 pub mod expr;
 pub mod tokens;
 pub mod types;
+pub mod whole;
