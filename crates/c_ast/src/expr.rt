@@ -2,7 +2,7 @@
 
 use crate::token::Number;
 use crate::types::TypeName;
-use lu_base::name::Name;
+use lu_base::Name;
 use sqlite_items::Boxed;
 
 /// `.` or `->`.

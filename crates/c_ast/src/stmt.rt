@@ -2,7 +2,7 @@
 
 use crate::expr::Expr;
 use crate::types::TypeName;
-use lu_base::name::Name;
+use lu_base::Name;
 use sqlite_items::{Boxed, Items};
 
 /// A parameter, or what a local is declared by. An empty list of parameters is written `void`.

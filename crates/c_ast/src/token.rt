@@ -1,7 +1,7 @@
 //! Tokens.
 
-use lu_base::bytes8::Bytes8;
-use lu_base::name::Name;
+use lu_base::Bytes8;
+use lu_base::Name;
 
 /// A keyword of the grammar.
 #[derive(Clone, Copy, Debug, PartialEq, Eq)]

@@ -1,6 +1,6 @@
 //! Types as they are written.
 
-use lu_base::name::Name;
+use lu_base::Name;
 
 /// What follows `unsigned`.
 #[derive(Clone, Copy, Debug, PartialEq, Eq)]

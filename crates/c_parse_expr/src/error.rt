@@ -3,7 +3,7 @@
 ghost use Rattle.std.specs.Prelude.{◌≡◌};
 
 use c_ast::fault::Fault;
-use lu_base::memory::Memory as NoMemory;
+use lu_base::Memory as NoMemory;
 use std::alloc::AllocError;
 
 /// Why nothing is read from the front of a text.

@@ -14,7 +14,7 @@ use crate::tokens::{
 use crate::types::{begins_type, type_name};
 use c_ast::expr::{Access, BinaryOperator, Expr};
 use c_ast::token::{Keyword, Mark, Token};
-use lu_base::name::Name;
+use lu_base::Name;
 use sqlite_items::Boxed;
 use std::alloc::{AllocError, Global};
 
@@ -37,7 +37,7 @@ fn atom(alloc: Global, tokens: &[Token]) -> Result<(Boxed<Expr>, &[Token]), Read
         Some((Token::Number(n), rest)) => Ok((Boxed::new(alloc, Expr::Number(*n))?, rest)),
         Some((Token::Character(c), rest)) => Ok((Boxed::new(alloc, Expr::Character(*c))?, rest)),
         Some((Token::Identifier(x), rest)) => {
-            let name = x.copy()?;
+            let name = x.copy(alloc)?;
             Ok((Boxed::new(alloc, Expr::Name(name))?, rest))
         }
         _ => Err(syntax()),
@@ -78,7 +78,7 @@ fn size_of(alloc: Global, tokens: &[Token]) -> Result<(Boxed<Expr>, &[Token]), R
 {
     let tokens = expect_keyword(Keyword::Sizeof, tokens)?;
     let tokens = expect(Mark::LeftParen, tokens)?;
-    let (ty, tokens) = type_name(tokens)?;
+    let (ty, tokens) = type_name(alloc, tokens)?;
     let tokens = expect(Mark::RightParen, tokens)?;
     Ok((Boxed::new(alloc, Expr::SizeOf(ty))?, tokens))
 }
@@ -159,12 +159,12 @@ fn index(alloc: Global, tokens: &[Token], room: usize) -> Result<(Step, &[Token]
 }
 
 #[tactic(auto, unfolding(crate::specs::Reading::member))]
-fn member(tokens: &[Token]) -> Result<(Step, &[Token]), ReadError>
+fn member(alloc: Global, tokens: &[Token]) -> Result<(Step, &[Token]), ReadError>
     ensures { Gives (λ x. (step_seen x.0, x.1.now)) result (reading.member tokens.now) }
 {
     let (access, tokens) = access(tokens)?;
     let (name, tokens) = name(tokens)?;
-    Ok((Step::Of(access, name.copy()?), tokens))
+    Ok((Step::Of(access, name.copy(alloc)?), tokens))
 }
 
 #[cycle(expr)]
@@ -175,7 +175,7 @@ fn read_step(alloc: Global, tokens: &[Token], room: usize) -> Result<(Step, &[To
     if sees(Mark::LeftBracket, tokens) {
         index(alloc, tokens, room)
     } else {
-        member(tokens)
+        member(alloc, tokens)
     }
 }
 
@@ -242,7 +242,7 @@ fn cast(alloc: Global, tokens: &[Token], room: usize) -> Result<(Boxed<Expr>, &[
     ensures { Gives (λ x. (expression x.0, x.1.now)) result (reading.cast (reading.unary room) tokens.now) }
 {
     let tokens = expect(Mark::LeftParen, tokens)?;
-    let (ty, tokens) = type_name(tokens)?;
+    let (ty, tokens) = type_name(alloc, tokens)?;
     let tokens = expect(Mark::RightParen, tokens)?;
     let (operand, tokens) = unary(alloc, tokens, room)?;
     Ok((Boxed::new(alloc, Expr::Cast(ty, operand))?, tokens))

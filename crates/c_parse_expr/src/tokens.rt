@@ -9,7 +9,7 @@ use crate::error::ReadError;
 use c_ast::expr::{Access, BinaryOperator, UnaryOperator};
 use c_ast::fault::Fault;
 use c_ast::token::{Keyword, Mark, Token};
-use lu_base::name::Name;
+use lu_base::Name;
 
 /// Why a text is refused whose first token fits nothing.
 pub fn syntax() -> ReadError

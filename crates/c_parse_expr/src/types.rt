@@ -8,6 +8,7 @@ use crate::error::ReadError;
 use crate::tokens::{expect, expect_keyword, first, name, refusal, sees, sees_keyword, syntax};
 use c_ast::token::{Keyword, Mark, Token};
 use c_ast::types::{BaseType, TagKind, TypeName, UnsignedType};
+use std::alloc::Global;
 
 /// How many stars a type may have.
 pub const STAR_LIMIT: u8 = 8;
@@ -118,12 +119,12 @@ pub fn tag(tokens: &[Token]) -> Result<(TagKind, &[Token]), ReadError>
 }
 
 #[tactic(auto, unfolding(crate::specs::Reading::tagged))]
-fn tagged(tokens: &[Token]) -> Result<(BaseType, &[Token]), ReadError>
+fn tagged(alloc: Global, tokens: &[Token]) -> Result<(BaseType, &[Token]), ReadError>
     ensures { Gives (λ x. (x.0, x.1.now)) result (reading.tagged tokens.now) }
 {
     let (kind, tokens) = tag(tokens)?;
     let (name, tokens) = name(tokens)?;
-    Ok((BaseType::Tagged(kind, name.copy()?), tokens))
+    Ok((BaseType::Tagged(kind, name.copy(alloc)?), tokens))
 }
 
 fn base_of(token: &Token) -> Option<BaseType>
@@ -161,7 +162,7 @@ fn one_base(tokens: &[Token]) -> Result<(BaseType, &[Token]), ReadError>
 
 /// A type without stars, and the text after it.
 #[tactic(auto, unfolding(crate::specs::Reading::base_type))]
-pub fn base_type(tokens: &[Token]) -> Result<(BaseType, &[Token]), ReadError>
+pub fn base_type(alloc: Global, tokens: &[Token]) -> Result<(BaseType, &[Token]), ReadError>
     ensures { Gives (λ x. (x.0, x.1.now)) result (reading.base_type tokens.now) }
 {
     if sees_keyword(Keyword::Long, tokens) {
@@ -170,7 +171,7 @@ pub fn base_type(tokens: &[Token]) -> Result<(BaseType, &[Token]), ReadError>
     } else if sees_keyword(Keyword::Unsigned, tokens) {
         unsigned_type(tokens)
     } else if sees_tag(tokens) {
-        tagged(tokens)
+        tagged(alloc, tokens)
     } else {
         one_base(tokens)
     }
@@ -194,10 +195,10 @@ pub fn stars(tokens: &[Token]) -> Result<(u8, &[Token]), ReadError>
 
 /// A type, and the text after it.
 #[tactic(auto, unfolding(crate::specs::Reading::type_name))]
-pub fn type_name(tokens: &[Token]) -> Result<(TypeName, &[Token]), ReadError>
+pub fn type_name(alloc: Global, tokens: &[Token]) -> Result<(TypeName, &[Token]), ReadError>
     ensures { Gives (λ x. (x.0, x.1.now)) result (reading.type_name tokens.now) }
 {
-    let (base, tokens) = base_type(tokens)?;
+    let (base, tokens) = base_type(alloc, tokens)?;
     let (stars, tokens) = stars(tokens)?;
     Ok((TypeName { base, stars }, tokens))
 }

@@ -1,0 +1,4 @@
+pub mod Exit
+pub mod Files
+pub mod Output
+pub mod Stored
