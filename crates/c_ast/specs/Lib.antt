@@ -1,0 +1,4 @@
+pub mod Trees
+pub mod Cells
+pub mod Grammar
+pub mod Program

@@ -1,0 +1,4 @@
+pub mod Reads
+pub mod Reading
+pub mod Steps
+pub mod Answers
