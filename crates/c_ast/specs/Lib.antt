@@ -2,3 +2,5 @@ pub mod Trees
 pub mod Cells
 pub mod Grammar
 pub mod Program
+pub mod Lexeme
+pub mod Lexical
