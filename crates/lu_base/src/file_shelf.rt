@@ -26,7 +26,8 @@ fn read_up_to<F: Read>(alloc: Global, file: &mut F, max: u64) -> Result<Bytes8, 
     let mut buffer = [0u8; 4096];
     let mut left = max;
     for _ in 0..u64::MAX {
-        match file.read(&mut buffer) {
+        let asked = left.min(4095) as usize + 1;
+        match file.read(&mut buffer[..asked]) {
             Err(_) => return Err(ShelfFault::Failed),
             Ok(0) => return Ok(Bytes8::new(bytes)),
             Ok(count) if count as u64 > left => return Err(ShelfFault::TooLarge),
