@@ -1,12 +1,12 @@
 -- One object changed, taken away or added: the map and the order.
-use Rattle.std.proofs.Common.{◌≡◌, ◌≢◌, ◌∙◌, refl, ap, sym, subst, Bool, true, false, cond, ◌⊎◌, inl, inr, ℕ, zero, suc, ◌<◌, ◌≤◌, ◌+◌, ◌^◌, List, [], ◌∷◌, length, get_or, set, Option, Some, None, arith}
+use Rattle.std.proofs.Common.{◌≡◌, ◌≢◌, ◌∙◌, refl, ap, sym, Bool, true, false, cond, ◌⊎◌, inl, inr, ℕ, zero, suc, ◌<◌, ◌≤◌, ◌+◌, ◌^◌, List, [], ◌∷◌, length, get_or, set, Some, None, arith}
 use Rattle.std.specs.List.{remove, insert as inserted}
 use Rattle.std.specs.Ordering.{nat_cmp}
 use Rattle.std.specs.Cmp.{nat_cmp_total}
-use Rattle.std.specs.FinMap.{find, get, insert, remove as without, from_entries, get-from_entries, get-insert, get-remove, same_map, nat_cmp-IsAntisymmetric}
+use Rattle.std.specs.FinMap.{find, insert, remove as without, get-from_entries, get-insert, get-remove, same_map, nat_cmp-IsAntisymmetric}
 use Rattle.bm_mem.specs.Layout.{Entry, IsLaidOutFrom, IsLaidOut, IsCountUpTo}
 use Rattle.bm_mem.specs.Content.{IsClear}
-use Rattle.bm_mem.proofs.Entries.{end_of, content_of, same_address, equal_address, other_address, address_refl, from_bound, apart, sizes}
+use Rattle.bm_mem.proofs.Entries.{end_of, content_of, same_address, equal_address, other_address, address_refl, from_bound, sizes}
 
 cond_twice : {A : Type 0} (t : Bool) (a b c : A) → cond t a (cond t b c) ≡ cond t a c
 cond_twice true a b c = refl
@@ -60,9 +60,9 @@ find-set bound (e ∷ es) h (suc i) start new d inside at q =
 pub content-set : (es : List Entry) → IsLaidOut es → (i start : ℕ) (new : List ℕ) (d : Entry) → i < length es → (get_or es i d).0 ≡ start → content_of (set es i (start, new)) ≡ insert (content_of es) start new
 content-set es h i start new d inside at =
     same_map nat_cmp_total nat_cmp-IsAntisymmetric _ _ (λ q.
-      get-from_entries nat_cmp_total (set es i (start, new)) q
-      ∙ (find-set 0 es h i start new d inside at q
-      ∙ (ap (cond (same_address q start) (Some new)) (sym (get-from_entries nat_cmp_total es q)) ∙ sym (get-insert nat_cmp_total (content_of es) start new q))))
+    get-from_entries nat_cmp_total (set es i (start, new)) q
+    ∙ (find-set 0 es h i start new d inside at q
+    ∙ (ap (cond (same_address q start) (Some new)) (sym (get-from_entries nat_cmp_total es q)) ∙ sym (get-insert nat_cmp_total (content_of es) start new q))))
 
 pub laid-set : (bound : ℕ) (es : List Entry) → IsLaidOutFrom bound es → (i start : ℕ) (new : List ℕ) (d : Entry) → i < length es → (get_or es i d).0 ≡ start → length (get_or es i d).1 ≡ length new → IsLaidOutFrom bound (set es i (start, new))
 laid-set bound [] h i start new d inside at long = absurd (omega arith)
@@ -88,9 +88,9 @@ find-remove bound (e ∷ es) h (suc i) start d inside at q =
 pub content-remove : (es : List Entry) → IsLaidOut es → (i start : ℕ) (d : Entry) → i < length es → (get_or es i d).0 ≡ start → content_of (remove es i) ≡ without (content_of es) start
 content-remove es h i start d inside at =
     same_map nat_cmp_total nat_cmp-IsAntisymmetric _ _ (λ q.
-      get-from_entries nat_cmp_total (remove es i) q
-      ∙ (find-remove 0 es h i start d inside at q
-      ∙ (ap (cond (same_address q start) None) (sym (get-from_entries nat_cmp_total es q)) ∙ sym (get-remove nat_cmp_total (content_of es) start q))))
+    get-from_entries nat_cmp_total (remove es i) q
+    ∙ (find-remove 0 es h i start d inside at q
+    ∙ (ap (cond (same_address q start) None) (sym (get-from_entries nat_cmp_total es q)) ∙ sym (get-remove nat_cmp_total (content_of es) start q))))
 
 pub laid-remove : (bound : ℕ) (es : List Entry) → IsLaidOutFrom bound es → (i : ℕ) → IsLaidOutFrom bound (remove es i)
 laid-remove bound [] h zero = tt
@@ -145,6 +145,6 @@ module _ (es : List Entry) (laid : IsLaidOut es) (start count : ℕ) (new : List
   pub content_inserted : content_of (inserted es count (start, new)) ≡ insert (content_of es) start new
   content_inserted =
       same_map nat_cmp_total nat_cmp-IsAntisymmetric _ _ (λ q.
-        get-from_entries nat_cmp_total (inserted es count (start, new)) q
-        ∙ (find-insert es count start new c.bound other_start q
-        ∙ (ap (cond (same_address q start) (Some new)) (sym (get-from_entries nat_cmp_total es q)) ∙ sym (get-insert nat_cmp_total (content_of es) start new q))))
+      get-from_entries nat_cmp_total (inserted es count (start, new)) q
+      ∙ (find-insert es count start new c.bound other_start q
+      ∙ (ap (cond (same_address q start) (Some new)) (sym (get-from_entries nat_cmp_total es q)) ∙ sym (get-insert nat_cmp_total (content_of es) start new q))))

@@ -1,14 +1,13 @@
 -- Objects in address order as a finite map: which of them has a range, and what a change of one leaves.
-use Rattle.std.proofs.Common.{◌≡◌, ◌≢◌, ◌∙◌, refl, ap, sym, subst, Bool, true, false, cond, ◌⊎◌, inl, inr, ℕ, zero, suc, ◌<◌, ◌≤◌, ◌+◌, ◌-◌, ◌^◌, List, [], ◌∷◌, ◌++◌, map, replicate, length, get_or, set, take, drop, Option, Some, None, IsSome, Any, All, nat_le, arith}
-use Rattle.std.specs.List.{remove, insert as inserted}
-use Rattle.std.specs.Ordering.{nat_cmp, eq_by_cmp, is_eq}
+use Rattle.std.proofs.Common.{◌≡◌, ◌≢◌, ◌∙◌, refl, ap, sym, Bool, true, false, cond, ◌⊎◌, inl, inr, ℕ, zero, suc, ◌<◌, ◌≤◌, ◌+◌, ◌^◌, List, [], ◌∷◌, length, get_or, Some, Any, nat_le, arith}
+use Rattle.std.specs.Ordering.{nat_cmp, eq_by_cmp}
 use Rattle.std.specs.Cmp.{nat_cmp_total}
-use Rattle.std.specs.FinMap.{FinMap, find, get, insert, remove as without, from_entries, get-from_entries, get-insert, get-remove, same_map, nat_cmp-IsAntisymmetric}
+use Rattle.std.specs.FinMap.{find, get, from_entries, get-from_entries}
 use Rattle.std.specs.List.Sorted.{IsNonDecreasingBy, IsPartitionPoint}
 use Rattle.std.proofs.lemmas.Bool.{cases_lt}
 use Rattle.std.proofs.lemmas.Bool.Decides.{nat_tests}
 use Rattle.bm_mem.specs.Layout.{Entry, IsLaidOutFrom, IsLaidOut, IsCountUpTo, IsPlaceOf}
-use Rattle.bm_mem.specs.Content.{Content, Holds, IsInside, IsClear}
+use Rattle.bm_mem.specs.Content.{Content, Holds}
 
 abbrev pub end_of : Entry → ℕ
 end_of e = e.0 + length e.1

@@ -1,5 +1,5 @@
 -- Vectors of objects in address order: what a range in memory is to them.
-use Rattle.std.proofs.Common.{◌≡◌, ◌≢◌, ◌∙◌, refl, ap, sym, subst, ◌⊎◌, inl, inr, ℕ, zero, suc, ◌<◌, ◌≤◌, ◌+◌, ◌-◌, ◌^◌, List, [], ◌∷◌, length, get_or, set, map, Option, Some, None, IsSome, Any, nat_le, Bool, true, false, cond, ◌==◌, ◌++◌, take, drop, arith}
+use Rattle.std.proofs.Common.{◌≡◌, ◌∙◌, refl, ap, sym, subst, inl, inr, ℕ, zero, suc, ◌<◌, ◌≤◌, ◌+◌, ◌-◌, ◌^◌, List, [], ◌∷◌, length, get_or, set, Option, Some, None, IsSome, Any, nat_le, Bool, true, false, cond, ◌==◌, ◌++◌, take, drop, arith}
 use Rattle.std.specs.List.{remove, insert as inserted}
 use Rattle.std.specs.FinMap.{get, insert, remove as without, get-insert, same_map, nat_cmp-IsAntisymmetric}
 use Rattle.std.specs.Cmp.{nat_cmp_total}
@@ -131,11 +131,12 @@ objects_rise os laid = λ i j d ij inside.
 pub count_from_objects : (os : List Object) (addr count : ℕ) → IsPartitionPoint (λ o. nat_le o.addr addr ≡ true) (λ o. nat_le o.addr addr ≡ false) os count → count ≤ length os → IsCountUpTo (entries os) addr count
 count_from_objects [] addr count p bound = count_from_partition [] addr count (λ k d low below. absurd (omega arith), λ k d low below. absurd (omega arith)) bound
 count_from_objects (o ∷ os) addr count p bound =
-    count_from_partition (entries (o ∷ os)) addr count
-    (λ k d low below. rw (get_or-map entry_of (o ∷ os) k o d (omega arith)) (p.0 k o low below),
-    λ k d low below.
-      let inside : k < length (o ∷ os) = omega (arith, length-map (o ∷ os) entry_of) in
-      rw (get_or-map entry_of (o ∷ os) k o d inside) (p.1 k o low inside))
+    count_from_partition (entries (o ∷ os)) addr count (
+      λ k d low below. rw (get_or-map entry_of (o ∷ os) k o d (omega arith)) (p.0 k o low below),
+      λ k d low below.
+          let inside : k < length (o ∷ os) = omega (arith, length-map (o ∷ os) entry_of) in
+          rw (get_or-map entry_of (o ∷ os) k o d inside) (p.1 k o low inside),
+    )
     (omega (arith, bound, length-map (o ∷ os) entry_of))
 
 -- what `is_empty` says

@@ -8,3 +8,6 @@ mod vec_bytes;
 pub use bytes::Bytes;
 pub use error::Memory;
 pub use vec_bytes::VecBytes;
+
+#[cfg(test)]
+mod tests;

@@ -1,6 +1,6 @@
 // Memory as a vector of objects in address order.
 
-ghost use Rattle.std.specs.Prelude.{◌≡◌, ℕ, ◌+◌, ◌<◌, ◌≤◌, List, length, replicate, Any, IfOk};
+ghost use Rattle.std.specs.Prelude.{◌≡◌, ◌+◌, ◌<◌, ◌≤◌, length, replicate, Any, IfOk};
 ghost use Rattle.lu_spec.specs.Splice.{spliced};
 ghost use Rattle.bm_mem.specs.Layout.{entries, IsLaidOut, IsCountUpTo, IsPlaceOf};
 

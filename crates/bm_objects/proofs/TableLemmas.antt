@@ -1,11 +1,12 @@
 -- Tables of objects: the search by address, one more row, and one that dies.
-use Rattle.std.proofs.Common.{◌≡◌, ◌≢◌, ◌∙◌, sym, ap, refl, subst, ℕ, zero, suc, ◌-◌, ◌<◌, ◌≤◌, ◌^◌, ◌⊎◌, inl, inr, Bool, true, false, nat_le, nat_eq, List, [], ◌∷◌, ◌++◌, length, get_or, set, Option, Some, None, All, Any, arith}
+use Rattle.std.proofs.Common.{◌≡◌, ◌≢◌, ◌∙◌, sym, ap, refl, subst, ℕ, zero, suc, ◌-◌, ◌<◌, ◌≤◌, ◌^◌, ◌⊎◌, inl, inr, Bool, true, false, nat_le, nat_eq, List, [], ◌∷◌, ◌++◌, length, get_or, set, Option, Some, None, All, Any, cond, slice_get, arith}
 use Rattle.std.specs.List.{find}
 use Rattle.std.specs.List.Sorted.{IsNonDecreasingBy, IsPartitionPoint}
 use Rattle.std.specs.Option.{SomeIff, MatchOption}
 use Rattle.std.proofs.lemmas.Bool.{cases_lt, cases_eq}
 use Rattle.std.proofs.lemmas.Bool.Decides.{nat_tests}
 use Rattle.std.proofs.lemmas.List.{get_or-map, get_or_read, same_lists, get_or-set_same, get_or-set_other, length-set, length-map}
+use Rattle.std.proofs.lemmas.Option.{slice_get_within, get_or_from_slice_get}
 use Rattle.std.proofs.lemmas.List.Elements.{All-push, All-nil, All-cons}
 use Rattle.std.proofs.lemmas.List.Quantifiers.{all_pairs_push}
 use Rattle.bm_objects.specs.declared.row.Row.{Row}
@@ -187,3 +188,34 @@ last_from_partition rows addr count (Some i) p bound s = record {
 
     above_if : (row : Row) → nat_le row.addr addr ≡ false → addr < row.addr
     above_if row e = grind (arith, nat_tests)
+
+-- what `find` says of a table
+pub reaches_is : (addr : ℕ) (row : Row) → reaches addr row ≡ true → (row.addr ≤ addr) × (addr ≤ end_of row)
+reaches_is addr row h = (grind (arith, nat_tests), grind (arith, nat_tests))
+
+pub found : (p : Row → Bool) (rows : List Row) (row : Row) → find p rows ≡ Some row → (k : ℕ) × (slice_get rows k ≡ Some row) × (p row ≡ true)
+found p [] row e = absurd (cc)
+found p (x ∷ rows) row e = by_test (p x) refl e (found p rows row)
+  where
+    by_test : (t : Bool) → p x ≡ t → cond t (Some x) (find p rows) ≡ Some row → (find p rows ≡ Some row → (k : ℕ) × (slice_get rows k ≡ Some row) × (p row ≡ true)) → (k : ℕ) × (slice_get (x ∷ rows) k ≡ Some row) × (p row ≡ true)
+    by_test true t e below = let same : x ≡ row = cc in (0, ap Some same, subst (λ r. p r ≡ true) same t)
+    by_test false t e below = let r = below e in (suc r.0, r.1, r.2)
+
+pub not_found : (p : Row → Bool) (rows : List Row) → find p rows ≡ None → (k : ℕ) (row : Row) → slice_get rows k ≡ Some row → p row ≡ false
+not_found p [] e k row at = absurd (cc)
+not_found p (x ∷ rows) e k row at = by_test (p x) refl e k at (λ none j there. not_found p rows none j row there)
+  where
+    by_test : (t : Bool) → p x ≡ t → cond t (Some x) (find p rows) ≡ None → (k : ℕ) → slice_get (x ∷ rows) k ≡ Some row → (find p rows ≡ None → (j : ℕ) → slice_get rows j ≡ Some row → p row ≡ false) → p row ≡ false
+    by_test true t e k at below = absurd (cc)
+    by_test false t e zero at below = let same : x ≡ row = cc in subst (λ r. p r ≡ false) same t
+    by_test false t e (suc k) at below = below e k at
+
+-- a row is found by each of its addresses
+pub finds_row : (rows : List Row) (addr k : ℕ) (row : Row) → IsTable rows → slice_get rows k ≡ Some row → row.addr ≤ addr → addr ≤ end_of row → find (reaches addr) rows ≡ Some row
+finds_row rows addr k row t at low high =
+    let inside = slice_get_within rows k row at in
+    let here : row ≡ get_or rows k row = sym (get_or_from_slice_get rows k row row at) in
+    find_first (reaches addr) rows k row inside here (reaches_if addr row low high) (λ j d below.
+    let h = t.apart j k d below inside in
+    let same : get_or rows k d ≡ row = get_or_from_slice_get rows k row d at in
+    behind_row addr (get_or rows j d) (omega (arith, h, ap (λ r. r.addr) same, low)))

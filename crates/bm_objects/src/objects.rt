@@ -1,7 +1,6 @@
 // The table of the objects of a process.
 
-ghost use Rattle.std.specs.Prelude.{◌≡◌, ◌+◌, ◌<◌, ◌≤◌, ◌^◌, ◌==◌, List, [], ◌∷◌, ◌++◌, length, All, Any, find, slice_get, Some, OnOk, OnErr};
-ghost use Rattle.std.specs.List.{AllWithin};
+ghost use Rattle.std.specs.Prelude.{◌≡◌, ◌<◌, ◌^◌, ◌==◌, [], ◌∷◌, ◌++◌, length, All, Any, find, slice_get, Some, OnOk, OnErr};
 
 use crate::error::Memory;
 use crate::row::Row;

@@ -1,6 +1,6 @@
 // The search by address.
 
-ghost use Rattle.std.specs.Prelude.{◌≡◌, ◌<◌, ◌≤◌, List, length, MatchOption};
+ghost use Rattle.std.specs.Prelude.{MatchOption};
 ghost use Rattle.bm_objects.specs.Table.{IsTable};
 ghost use Rattle.bm_objects.specs.Search.{IsLastUpTo, AllAbove};
 

@@ -1,6 +1,5 @@
 use Rattle.std.proofs.Common.{rules, nat_le}
 use Rattle.std.proofs.lemmas.List.Sorted.{IsPartitionPoint-from_clause, IsPartitionedBy-leb}
-use Rattle.bm_mem.proofs.Entries.{count_from_partition}
 use Rattle.bm_mem.proofs.ObjectLemmas.{objects_rise, count_from_objects}
 use Rattle.bm_mem.proofs.vec_bytes.count_up_to.Goals as goal
 

@@ -1,4 +1,4 @@
-use Rattle.std.proofs.Common.{◌≡◌, ◌∙◌, sym, ap, ℕ, ◌<◌, ◌+◌, ◌-◌, List, length, take, drop, arith}
+use Rattle.std.proofs.Common.{◌≡◌, ◌∙◌, ap, ℕ, ◌+◌, ◌-◌, List, length, take, drop, arith}
 use Rattle.lu_spec.specs.Splice.{piece_at}
 use Rattle.bm_mem.specs.Content.{Holds}
 use Rattle.bm_mem.proofs.ObjectLemmas.{begun_for, holder_is, width_some, IsHolder}

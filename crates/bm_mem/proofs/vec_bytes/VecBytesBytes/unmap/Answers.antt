@@ -1,4 +1,4 @@
-use Rattle.std.proofs.Common.{◌≡◌, ◌∙◌, sym, ap, subst}
+use Rattle.std.proofs.Common.{◌∙◌, sym, ap, subst}
 use Rattle.bm_mem.specs.Layout.{entries, IsLaidOut}
 use Rattle.bm_mem.proofs.Entries.{content_of}
 use Rattle.bm_mem.proofs.ObjectLemmas.{begun_for, holds_first, some_value, laid_removed, content_removed}

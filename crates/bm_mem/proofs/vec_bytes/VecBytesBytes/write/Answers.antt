@@ -1,11 +1,9 @@
-use Rattle.std.proofs.Common.{◌≡◌, ◌∙◌, refl, sym, ap, ℕ, ◌<◌, ◌≤◌, ◌+◌, ◌-◌, List, length, arith}
+use Rattle.std.proofs.Common.{◌≡◌, ◌∙◌, refl, ap, ℕ, ◌<◌, ◌-◌, List, length, arith}
 use Rattle.std.specs.Vec.{with_items}
 use Rattle.std.specs.FinMap.{insert}
 use Rattle.std.proofs.lemmas.List.{with_items_is}
 use Rattle.lu_spec.specs.Splice.{spliced}
-use Rattle.lu_spec.proofs.SpliceLemmas.{length-spliced}
 use Rattle.bm_mem.specs.declared.vec_bytes.Object.{Object}
-use Rattle.bm_mem.specs.Layout.{entries, IsLaidOut}
 use Rattle.bm_mem.specs.Content.{Holds}
 use Rattle.bm_mem.proofs.ObjectLemmas.{begun_for, holder_is, inside_here, is_empty, is_not_empty, nothing_written, laid_changed, content_changed, IsHolder}
 use Rattle.bm_mem.proofs.vec_bytes.VecBytesBytes.write.Goals as goal
