@@ -82,20 +82,20 @@ items-apart i j z n a b c d = by_order (cases_order i j)
     by_order (inr (inl h)) = absurd (let m = after i j z h in omega (arith, m))
     by_order (inr (inr h)) = absurd (let m = after j i z h in omega (arith, m))
 
-array-find : (t size n i offset : ℕ) → nat_lt i n ≡ true → 0 < size → i * size ≤ offset → offset < i * size + size → part_in_array t size n offset ≡ Some (part (Index i) t (offset - i * size))
+pub array-find : (t size n i offset : ℕ) → nat_lt i n ≡ true → 0 < size → i * size ≤ offset → offset < i * size + size → part_in_array t size n offset ≡ Some (part (Index i) t (offset - i * size))
 array-find t size n i offset lt some a b =
     let same : offset / size ≡ i = items-apart (offset / size) i size offset (div-mul-le_self offset size) (lt-div-mul-add {a = offset} {b = size} some) a b in
     let rest : offset % size ≡ offset - i * size = omega (arith, ap (λ x. x * size) same) in
     rw (same, lt) (ap (λ r. Some (part (Index i) t r)) rest)
 
-record FoundItem (t size n offset : ℕ) (q : Part) : Type 0 where
+pub record FoundItem (t size n offset : ℕ) (q : Part) : Type 0 where
   pub number : ℕ
   pub within : nat_lt number n ≡ true
   pub step : q.step ≡ Index number
   pub ty : q.ty ≡ t
   pub rest : number * size + q.rest ≡ offset
 
-array-sound : (t size n offset : ℕ) (q : Part) → 0 < size → part_in_array t size n offset ≡ Some q → FoundItem t size n offset q
+pub array-sound : (t size n offset : ℕ) (q : Part) → 0 < size → part_in_array t size n offset ≡ Some q → FoundItem t size n offset q
 array-sound t size n offset q some e = by_test (nat_lt (offset / size) n) refl e
   where
     by_test : (b : Bool) → nat_lt (offset / size) n ≡ b → (if b then Some (part (Index (offset / size)) t (offset % size)) else None) ≡ Some q → FoundItem t size n offset q

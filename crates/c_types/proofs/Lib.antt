@@ -8,6 +8,7 @@ pub mod KeptLemmas
 pub mod Lists
 pub mod MarkLemmas
 pub mod Numbered
+pub mod ObjectLaws
 pub mod PathLaws
 pub mod PlaceLaws
 pub mod RoundLemmas
