@@ -2,6 +2,7 @@ pub mod Acyclic
 pub mod Alignment
 pub mod Capped
 pub mod ChainLemmas
+pub mod Descending
 pub mod DescentLemmas
 pub mod FieldLaws
 pub mod KeptLemmas
@@ -13,5 +14,6 @@ pub mod PathLaws
 pub mod PlaceLaws
 pub mod RoundLemmas
 pub mod Settled
+pub mod TableLemmas
 pub mod ShapeLaws
 pub mod Shapes

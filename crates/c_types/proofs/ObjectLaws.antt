@@ -13,7 +13,8 @@ use Rattle.c_types.specs.declared.path.Step.TheVariants.{Index, Field, Member}
 use Rattle.c_types.specs.declared.descent.Part.{Part}
 use Rattle.c_types.specs.Recursion.{depth}
 use Rattle.c_types.specs.Layout.{IsMultiple, size_of, align_of}
-use Rattle.c_types.specs.Place.{Place, place, shifted, path_place, object_place, is_member, IsOutsideUnions, IsPlaceAt, HasNoPlaceAt}
+use Rattle.c_types.specs.declared.path.Place.{Place}
+use Rattle.c_types.specs.Place.{place, shifted, path_place, object_place, is_member, IsOutsideUnions, IsPlaceAt, HasNoPlaceAt}
 use Rattle.c_types.specs.Descent.{part, part_in_array, descend, find_place}
 use Rattle.c_types.specs.Refusal.{IsBuilt}
 use Rattle.c_types.proofs.Alignment.{IsAlignment, IsMultiple-greater, IsMultiple-times, IsMultiple-trans, IsMultiple-add}
