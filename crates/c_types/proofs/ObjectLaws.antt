@@ -2,6 +2,7 @@
 use Rattle.std.proofs.Common.{◌≡◌, ◌∙◌, sym, ap, subst, refl, ℕ, zero, suc, ◌<◌, ◌≤◌, ◌+◌, ◌-◌, ◌*◌, ◌/◌, ◌%◌, Bool, true, false, ◌⊎◌, inl, inr, nat_lt, if◌then◌else◌, List, [], ◌∷◌, ◌++◌, length, Option, Some, None, arith}
 use Rattle.std.proofs.lemmas.Bool.{cases_order}
 use Rattle.std.proofs.lemmas.Bool.Decides.{nat_tests}
+use Rattle.std.specs.Prelude.{MatchOption, MatchBool, is_some}
 use Rattle.std.specs.List.{list_any}
 use Rattle.std.specs.Option.{option_map}
 use Rattle.lu_spec.specs.Then.{then_option}
@@ -14,7 +15,7 @@ use Rattle.c_types.specs.declared.descent.Part.{Part}
 use Rattle.c_types.specs.Recursion.{depth}
 use Rattle.c_types.specs.Layout.{IsMultiple, size_of, align_of}
 use Rattle.c_types.specs.declared.path.Place.{Place}
-use Rattle.c_types.specs.Place.{place, shifted, path_place, object_place, is_member, IsOutsideUnions, IsPlaceAt, HasNoPlaceAt}
+use Rattle.c_types.specs.Place.{place, shifted, path_place, object_place, is_member, IsOutsideUnions, IsPlaceAt, HasPlaceAt, HasNoPlaceAt}
 use Rattle.c_types.specs.Descent.{part, part_in_array, descend, find_place}
 use Rattle.c_types.specs.Refusal.{IsBuilt}
 use Rattle.c_types.proofs.Alignment.{IsAlignment, IsMultiple-greater, IsMultiple-times, IsMultiple-trans, IsMultiple-add}
@@ -175,3 +176,16 @@ module _ (w : ℕ) (p : Parts) (pointer : IsAlignment w) (built : IsBuilt w p) (
 
   pub no-place : (offset want : ℕ) → elem < length p.types → find_place w p elem count offset want ≡ None → HasNoPlaceAt w p elem count offset want
   no-place offset want k e path at = let x : Some path ≡ None = sym (find_place-path offset want path k at) ∙ e in cc
+
+  pub found-decided : (offset want : ℕ) → elem < length p.types → (o : Option (List Step)) → o ≡ find_place w p elem count offset want → MatchOption o (HasNoPlaceAt w p elem count offset want) (IsPlaceAt w p elem count offset want)
+  found-decided offset want k None e = no-place offset want k (sym e)
+  found-decided offset want k (Some path) e = find_place-sound offset want path k (sym e)
+
+  pub fits-decided : (offset want : ℕ) → elem < length p.types → (b : Bool) → b ≡ is_some (find_place w p elem count offset want) → MatchBool b (HasPlaceAt w p elem count offset want) (HasNoPlaceAt w p elem count offset want)
+  fits-decided offset want k b e = by_found b (find_place w p elem count offset want) refl e
+    where
+      by_found : (b : Bool) (o : Option (List Step)) → find_place w p elem count offset want ≡ o → b ≡ is_some o → MatchBool b (HasPlaceAt w p elem count offset want) (HasNoPlaceAt w p elem count offset want)
+      by_found true None f e = cc
+      by_found true (Some path) f e = (path, find_place-sound offset want path k f)
+      by_found false None f e = no-place offset want k f
+      by_found false (Some path) f e = cc
