@@ -19,7 +19,8 @@ use Rattle.c_types.specs.declared.descent.Part.{Part}
 use Rattle.c_types.specs.Tables.{fields_of}
 use Rattle.c_types.specs.Recursion.{depth}
 use Rattle.c_types.specs.Layout.{Shapes, field_start, field_end, nth_start, shape_of, size_of, align_of, field_offset}
-use Rattle.c_types.specs.Place.{Place, place, shifted, step_place, path_place, object_place, is_member, IsOutsideUnions, IsPlaceAt, HasNoPlaceAt}
+use Rattle.c_types.specs.declared.path.Place.{Place}
+use Rattle.c_types.specs.Place.{place, shifted, step_place, path_place, object_place, is_member, IsOutsideUnions, IsPlaceAt, HasNoPlaceAt}
 use Rattle.c_types.specs.Descent.{part, part_in_fields, part_in_array, part_at, is_here, descend, find_place}
 use Rattle.c_types.specs.Refusal.{IsBuilt}
 use Rattle.c_types.proofs.Lists.{and_left, and_right}
@@ -82,20 +83,20 @@ items-apart i j z n a b c d = by_order (cases_order i j)
     by_order (inr (inl h)) = absurd (let m = after i j z h in omega (arith, m))
     by_order (inr (inr h)) = absurd (let m = after j i z h in omega (arith, m))
 
-array-find : (t size n i offset : ℕ) → nat_lt i n ≡ true → 0 < size → i * size ≤ offset → offset < i * size + size → part_in_array t size n offset ≡ Some (part (Index i) t (offset - i * size))
+pub array-find : (t size n i offset : ℕ) → nat_lt i n ≡ true → 0 < size → i * size ≤ offset → offset < i * size + size → part_in_array t size n offset ≡ Some (part (Index i) t (offset - i * size))
 array-find t size n i offset lt some a b =
     let same : offset / size ≡ i = items-apart (offset / size) i size offset (div-mul-le_self offset size) (lt-div-mul-add {a = offset} {b = size} some) a b in
     let rest : offset % size ≡ offset - i * size = omega (arith, ap (λ x. x * size) same) in
     rw (same, lt) (ap (λ r. Some (part (Index i) t r)) rest)
 
-record FoundItem (t size n offset : ℕ) (q : Part) : Type 0 where
+pub record FoundItem (t size n offset : ℕ) (q : Part) : Type 0 where
   pub number : ℕ
   pub within : nat_lt number n ≡ true
   pub step : q.step ≡ Index number
   pub ty : q.ty ≡ t
   pub rest : number * size + q.rest ≡ offset
 
-array-sound : (t size n offset : ℕ) (q : Part) → 0 < size → part_in_array t size n offset ≡ Some q → FoundItem t size n offset q
+pub array-sound : (t size n offset : ℕ) (q : Part) → 0 < size → part_in_array t size n offset ≡ Some q → FoundItem t size n offset q
 array-sound t size n offset q some e = by_test (nat_lt (offset / size) n) refl e
   where
     by_test : (b : Bool) → nat_lt (offset / size) n ≡ b → (if b then Some (part (Index (offset / size)) t (offset % size)) else None) ≡ Some q → FoundItem t size n offset q
@@ -232,9 +233,9 @@ module _ (w : ℕ) (p : Parts) (pointer : IsAlignment w) (built : IsBuilt w p) w
           let P : List Step → Type 0 = λ path. (path_place w p t path ≡ Some (place want offset)) × IsOutsideUnions path in
           subst P same (
             ap (λ o. then_option o (λ to. then_option (path_place w p to.ty rest) (shifted to.offset))) part.step
-            ∙ (ap (λ o. then_option o (shifted part.to.offset)) (ap (λ u. path_place w p u rest) (sym part.ty) ∙ inner.0)
-            ∙ ap (λ x. Some (place want x)) part.sum),
-            ap (λ b. b || list_any is_member rest) part.outside ∙ inner.1
+                ∙ (ap (λ o. then_option o (shifted part.to.offset)) (ap (λ u. path_place w p u rest) (sym part.ty) ∙ inner.0)
+                ∙ ap (λ x. Some (place want x)) part.sum),
+            ap (λ b. b || list_any is_member rest) part.outside ∙ inner.1,
           )
 
       by_here : (b : Bool) → is_here t offset want ≡ b → (if b then Some [] else then_option (part_at w p offset (slice_get p.types t)) (λ q. option_map (λ path. q.step ∷ path) (descend w p n q.ty q.rest want))) ≡ Some path → ((t offset want : ℕ) (path : List Step) → descend w p n t offset want ≡ Some path → (path_place w p t path ≡ Some (place want offset)) × IsOutsideUnions path) → (path_place w p t path ≡ Some (place want offset)) × IsOutsideUnions path

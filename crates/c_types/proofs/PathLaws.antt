@@ -18,7 +18,8 @@ use Rattle.c_types.specs.Tables.{fields_of}
 use Rattle.c_types.specs.Chain.{held_by}
 use Rattle.c_types.specs.Recursion.{depth}
 use Rattle.c_types.specs.Layout.{IsMultiple, shape_of, size_of, align_of, field_offset}
-use Rattle.c_types.specs.Place.{Place, place, shifted, step_place, path_place, object_place, is_member, IsOutsideUnions}
+use Rattle.c_types.specs.declared.path.Place.{Place}
+use Rattle.c_types.specs.Place.{place, shifted, step_place, path_place, object_place, is_member, IsOutsideUnions}
 use Rattle.c_types.specs.Refusal.{IsBuilt}
 use Rattle.c_types.proofs.Alignment.{IsAlignment, IsMultiple-greater, IsMultiple-self, IsMultiple-zero, IsMultiple-times, IsMultiple-trans, IsMultiple-add}
 use Rattle.c_types.proofs.FieldLaws.{nth-before}

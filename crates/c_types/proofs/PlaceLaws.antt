@@ -23,7 +23,8 @@ use Rattle.c_types.specs.Tables.{fields_of, members_of}
 use Rattle.c_types.specs.Chain.{field_types, held_in, held_by, is_settled}
 use Rattle.c_types.specs.Recursion.{at_type, by_fuel, depth}
 use Rattle.c_types.specs.Layout.{shape, int_size, next_multiple, IsMultiple, Shapes, greatest_align, greatest_size, field_end, fields_end, members_start, union_align, shape_step, shape_of, size_of, align_of, field_offset, member_offset}
-use Rattle.c_types.specs.Place.{Place, place, shifted, step_place, path_place, object_place, is_member, IsOutsideUnions}
+use Rattle.c_types.specs.declared.path.Place.{Place}
+use Rattle.c_types.specs.Place.{place, shifted, step_place, path_place, object_place, is_member, IsOutsideUnions}
 use Rattle.c_types.specs.Refusal.{IsBuilt}
 use Rattle.c_types.proofs.Alignment.{IsAlignment, IsAlignment-max, IsAlignment-low, four_bytes, IsMultiple-greater, IsMultiple-self, IsMultiple-zero, IsMultiple-times, IsMultiple-trans, IsMultiple-add, IsMultiple-next}
 use Rattle.c_types.proofs.Capped.{next_multiple-above, fuel-low}

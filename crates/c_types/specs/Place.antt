@@ -7,15 +7,11 @@ use Rattle.c_types.specs.declared.parts.Ty.{Ty}
 use Rattle.c_types.specs.declared.parts.Ty.TheVariants.{Int, Pointer, VoidPointer, Function, Struct, Union, Array}
 use Rattle.c_types.specs.declared.parts.FieldDef.{FieldDef}
 use Rattle.c_types.specs.declared.parts.Parts.{Parts}
+use Rattle.c_types.specs.declared.path.Place.{Place}
 use Rattle.c_types.specs.declared.path.Step.{Step}
 use Rattle.c_types.specs.declared.path.Step.TheVariants.{Index, Field, Member}
 use Rattle.c_types.specs.Tables.{fields_of, members_of}
 use Rattle.c_types.specs.Layout.{size_of, field_offset, member_offset}
-
--- a type at an offset
-pub record Place : Type 0 where
-  pub ty : ℕ
-  pub offset : ℕ
 
 abbrev pub place : ℕ → ℕ → Place
 place ty offset = record { ty = ty; offset = offset }
@@ -68,3 +64,7 @@ pub record IsPlaceAt (w : ℕ) (p : Parts) (elem count offset want : ℕ) (path 
 -- no path does
 abbrev pub HasNoPlaceAt : ℕ → Parts → ℕ → ℕ → ℕ → ℕ → Type 0
 HasNoPlaceAt w p elem count offset want = (path : List Step) → IsPlaceAt w p elem count offset want path → ⊥
+
+-- a path does
+abbrev pub HasPlaceAt : ℕ → Parts → ℕ → ℕ → ℕ → ℕ → Type 0
+HasPlaceAt w p elem count offset want = (path : List Step) × IsPlaceAt w p elem count offset want path

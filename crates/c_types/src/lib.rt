@@ -8,6 +8,7 @@ pub mod errors;
 pub mod numbering;
 pub mod parts;
 pub mod path;
+pub mod places;
 pub mod rounds;
 pub mod sequence;
 pub mod shape;

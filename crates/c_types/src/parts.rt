@@ -1,7 +1,8 @@
-ghost use Rattle.std.specs.Prelude.{◌≡◌, slice_get};
+ghost use Rattle.std.specs.Prelude.{◌≡◌, IfOk, slice_get};
 ghost use Rattle.c_types.specs.Tables.{fields_of, members_of};
 
 use crate::sequence::Sequence;
+use std::alloc::{AllocError, Global};
 
 /// The number of a type in the list of types.
 pub type TyId = u32;
@@ -68,7 +69,47 @@ pub struct Parts {
     pub signatures: Sequence<Signature>,
 }
 
+fn copy_tags(alloc: Global, tags: &[TagDef]) -> Result<Sequence<TagDef>, AllocError>
+    ensures { IfOk result (λ copies. copies ≡ tags.now) }
+{
+    let mut copies = Vec::new(alloc);
+    for tag in tags {
+        copies.push(TagDef {
+            tag: tag.tag,
+            fields: tag.fields.copy(alloc)?,
+        })?;
+    }
+    Ok(Sequence::from_vec(copies))
+}
+
+fn copy_signatures(
+    alloc: Global,
+    signatures: &[Signature],
+) -> Result<Sequence<Signature>, AllocError>
+    ensures { IfOk result (λ copies. copies ≡ signatures.now) }
+{
+    let mut copies = Vec::new(alloc);
+    for signature in signatures {
+        copies.push(Signature {
+            result: signature.result,
+            params: signature.params.copy(alloc)?,
+        })?;
+    }
+    Ok(Sequence::from_vec(copies))
+}
+
 impl Parts {
+    pub fn copy(&self, alloc: Global) -> Result<Parts, AllocError>
+        ensures { IfOk result (λ parts. parts ≡ self.now) }
+    {
+        Ok(Parts {
+            types: self.types.copy(alloc)?,
+            structs: copy_tags(alloc, self.structs.as_slice())?,
+            unions: copy_tags(alloc, self.unions.as_slice())?,
+            signatures: copy_signatures(alloc, self.signatures.as_slice())?,
+        })
+    }
+
     /// The type of a number; none where there is no such type.
     pub fn find_type(&self, number: TyId) -> Option<Ty>
         ensures { result ≡ slice_get self.now.types number }

@@ -1,5 +1,6 @@
 ghost use Rattle.std.specs.Prelude.{◌≡◌};
 
+use crate::parts::TyId;
 use std::marker::Model;
 
 /// A step from a place to a part of it.
@@ -11,6 +12,13 @@ pub enum Step {
     Field(u32),
     /// A member of a union, from 0.
     Member(u32),
+}
+
+/// A type at an offset in bytes.
+#[derive(Clone, Copy, Debug, PartialEq, Eq)]
+pub struct Place {
+    pub ty: TyId,
+    pub offset: u32,
 }
 
 /// Steps from an object or a type to one of its parts, seen in contracts as their list.

@@ -77,7 +77,8 @@ fn field_end(shape: Shape, end: u64) -> u64
     next_multiple(end, shape.align) + shape.size as u64
 }
 
-fn fields_end(shapes: &[Shape], fields: &[FieldDef]) -> u64
+/// Where fields end, in bytes from the first.
+pub fn fields_end(shapes: &[Shape], fields: &[FieldDef]) -> u64
     requires known { AreSmall (shape_at shapes.now) }
     requires count { length fields.now < 2 ^ 32 }
     ensures value { result ≡ fields_end (shape_at shapes.now) 0 fields.now }

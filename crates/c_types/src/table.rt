@@ -3,13 +3,17 @@
 ghost use Rattle.std.specs.Prelude.{◌≡◌, ℕ, ◌<◌, length, IsTrue, IfOk, IfErr, OnOk, MatchBool, MatchOption, slice_get};
 ghost use Rattle.c_types.specs.Numbering.{is_well_numbered};
 ghost use Rattle.c_types.specs.Layout.{size_of, align_of};
+ghost use Rattle.c_types.specs.Place.{path_offset, path_type, IsPlaceAt, HasPlaceAt, HasNoPlaceAt};
 ghost use Rattle.c_types.specs.Refusal.{has_bad_length, is_too_big, IsTooBig, IsLeast, NoneIs, IsBuilt, Refuses};
 ghost use Rattle.c_types.specs.Kept.{AreCapped};
 
 use crate::cycles::first_cycle;
+use crate::descent::path_place;
 use crate::duplicates::{first_duplicate, first_empty};
 use crate::errors::{BuildError, Memory};
 use crate::parts::{POINTER_SIZE, Parts, Ty, TyId};
+use crate::path::{Path, Step};
+use crate::places::{find_place, has_place};
 use crate::rounds::all_shapes;
 use crate::shape::{GREATEST, Shape, shape_at};
 use std::alloc::{AllocError, Global};
@@ -110,5 +114,58 @@ impl TypeTable {
         ensures { result ≡ align_of POINTER_SIZE self.now number }
     {
         shape_at(&self.shapes, number).align
+    }
+
+    /// A table equal to this one.
+    pub fn copy(&self, alloc: Global) -> Result<TypeTable, Memory>
+        ensures { IfOk result (λ table. table ≡ self.now) }
+    {
+        Ok(TypeTable {
+            parts: self.parts.copy(alloc)?,
+            shapes: Vec::from_slice(alloc, &self.shapes)?,
+        })
+    }
+
+    /// The bytes from the start of a type to where a path of it leads; 0 where it is no path of the type.
+    pub fn offset_of(&self, number: TyId, path: &[Step]) -> u32
+        ensures { result ≡ path_offset POINTER_SIZE self.now number path.now }
+    {
+        match path_place(&self.parts, &self.shapes, number, path) {
+            None => 0,
+            Some(place) => place.offset,
+        }
+    }
+
+    /// The type to which a path of a type leads; the type itself where it is no path of it.
+    pub fn type_at(&self, number: TyId, path: &[Step]) -> TyId
+        ensures { result ≡ path_type POINTER_SIZE self.now number path.now }
+    {
+        match path_place(&self.parts, &self.shapes, number, path) {
+            None => number,
+            Some(place) => place.ty,
+        }
+    }
+
+    /// The place of type `want` at an offset in bytes of an object of so many elements, outside unions.
+    pub fn place_at(
+        &self,
+        alloc: Global,
+        elem: TyId,
+        count: u32,
+        offset: u32,
+        want: TyId,
+    ) -> Result<Option<Path>, Memory>
+        requires { elem < length self.now.types }
+        ensures { IfOk result (λ found. MatchOption found (HasNoPlaceAt POINTER_SIZE self.now elem count offset want) (IsPlaceAt POINTER_SIZE self.now elem count offset want)) }
+    {
+        Ok(find_place(alloc, &self.parts, &self.shapes, elem, count, offset, want)?)
+    }
+
+    /// Whether there is such a place.
+    pub fn fits(&self, elem: TyId, count: u32, offset: u32, want: TyId) -> bool
+        requires { elem < length self.now.types }
+        ensures { MatchBool result (HasPlaceAt POINTER_SIZE self.now elem count offset want) (HasNoPlaceAt POINTER_SIZE self.now elem count offset want) }
+    {
+        has_place(&self.parts, &self.shapes, elem, count, offset, want)
     }
 }
