@@ -1,0 +1,11 @@
+//! An input for the program, made of a number: a table of counts that is updated in the middle of a thousand messages.
+#![tactic(auto)]
+
+mod files;
+mod schedule;
+#[cfg(test)]
+mod tests;
+pub mod texts;
+
+pub use files::generate;
+pub use lu_base::Memory;
