@@ -1,0 +1,30 @@
+-- Which messages of an inbox are held back.
+use Rattle.std.specs.Prelude.{◌≡◌, ◌<◌, ℕ, ℤ, Bool, true, ◌&&◌, List, length, Some, slice_get}
+use Rattle.std.specs.List.{list_any}
+use Rattle.std.specs.Ordering.{int_eq}
+use Rattle.lu_base.specs.declared.message.Message.{Message}
+use Rattle.mk_queue.specs.declared.hold.Hold.{Hold}
+
+-- the hold is active, and the message's kind is among its kinds
+abbrev pub is_held_kind : Hold → Message → Bool
+is_held_kind hold m = hold.active && list_any (λ kind. int_eq kind m.kind) hold.kinds.items
+
+-- The message at a place is held back: its kind is held, or an earlier message of the same source is held back.
+pub data IsHeldBack (hold : Hold) (messages : List Message) : ℕ → Type 0 where
+  by_kind : (i : ℕ) (m : Message) → slice_get messages i ≡ Some m → is_held_kind hold m ≡ true → IsHeldBack hold messages i
+  by_source : (i j : ℕ) (m earlier : Message) → slice_get messages i ≡ Some m → j < i → slice_get messages j ≡ Some earlier → earlier.source ≡ m.source
+      → IsHeldBack hold messages j → IsHeldBack hold messages i
+
+-- the messages before a place are held back
+abbrev pub AreHeldBack : Hold → List Message → ℕ → Type 0
+AreHeldBack hold messages place = (i : ℕ) → i < place → IsHeldBack hold messages i
+
+-- the least place whose message isn't held back
+pub record IsNext (hold : Hold) (messages : List Message) (place : ℕ) : Type 0 where
+  pub within : place < length messages
+  pub free : IsHeldBack hold messages place → ⊥
+  pub before : AreHeldBack hold messages place
+
+-- among these is a message of that source and of a held kind
+abbrev pub has_held_source : Hold → List Message → ℤ → Bool
+has_held_source hold messages source = list_any (λ m. int_eq m.source source && is_held_kind hold m) messages

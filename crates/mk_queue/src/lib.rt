@@ -1,0 +1,11 @@
+//! The inbox of a server, and which of its messages are held back while an update of it is active.
+#![tactic(auto)]
+
+mod hold;
+mod inbox;
+#[cfg(test)]
+mod tests;
+
+pub use hold::Hold;
+pub use inbox::Inbox;
+pub use lu_base::Memory;

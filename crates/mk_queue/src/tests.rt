@@ -1,0 +1,56 @@
+use crate::{Hold, Inbox};
+use lu_base::{Memory, Message};
+use std::alloc::Global;
+
+fn message(source: i32, kind: i32) -> Message {
+    Message {
+        source,
+        kind,
+        arg: [0; 6],
+    }
+}
+
+fn filled(alloc: Global) -> Result<Inbox, Memory> {
+    let mut inbox = Inbox::fresh(alloc);
+    for (source, kind) in [(100, 1), (101, 9), (100, 9)] {
+        inbox.push(message(source, kind))?;
+    }
+    Ok(inbox)
+}
+
+#[test]
+fn holds_back_by_kind_and_source(rt: HostRuntime) -> Result<(), Memory> {
+    let alloc = rt.alloc();
+    let kinds = vec![in alloc; 1]?;
+    let hold = Hold {
+        active: true,
+        kinds,
+    };
+    let mut inbox = filled(alloc)?;
+    assert_eq!(&rt; inbox.next(&hold), Some(1));
+    assert!(&rt; inbox.len() == 3);
+    let taken = inbox.take(1);
+    assert_eq!(&rt; taken, message(101, 9));
+    assert_eq!(&rt; inbox.next(&hold), None);
+    assert!(&rt; inbox.len() == 2);
+    Ok(())
+}
+
+#[test]
+fn holds_nothing_back_while_inactive(rt: HostRuntime) -> Result<(), Memory> {
+    let alloc = rt.alloc();
+    let kinds = vec![in alloc; 1]?;
+    let hold = Hold {
+        active: false,
+        kinds,
+    };
+    let mut inbox = filled(alloc)?;
+    for wanted in [message(100, 1), message(101, 9), message(100, 9)] {
+        assert_eq!(&rt; inbox.next(&hold), Some(0));
+        assert!(&rt; inbox.len() > 0);
+        let taken = inbox.take(0);
+        assert_eq!(&rt; taken, wanted);
+    }
+    assert_eq!(&rt; inbox.next(&hold), None);
+    Ok(())
+}
