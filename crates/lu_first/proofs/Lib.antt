@@ -1,3 +1,4 @@
 mod BytesLemmas
 mod NumberLemmas
 mod PiecesLemmas
+mod ReadingLemmas

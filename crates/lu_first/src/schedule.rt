@@ -1,7 +1,7 @@
 // Schedules of the first form.
 use crate::Event;
 use crate::bytes::{is, split_at_byte};
-use crate::load::Refusal;
+use crate::loading::Refusal;
 use crate::number::{int, number_within};
 use crate::pieces::{Splitting, next_piece};
 use lu_base::Message;

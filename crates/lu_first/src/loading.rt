@@ -1,3 +1,8 @@
+ghost use Rattle.std.specs.Prelude.{◌≡◌};
+ghost use Rattle.lu_first.specs.declared.loading.Refusal.TheVariants as OfText;
+ghost use Rattle.lu_first.specs.declared.loading.LoadError.TheVariants as OfFiles;
+ghost use Rattle.lu_first.specs.Faults.{load_error_of_refusal, load_error_of_fault};
+
 use crate::plan::{Plan, read_plan};
 use crate::schedule::read_schedule;
 use crate::source::read_source;
@@ -30,24 +35,32 @@ pub enum Refusal {
 }
 
 impl From<Memory> for Refusal {
+    ghost from_gives = { λ _ e. e ≡ OfText.Memory };
+
     fn from(_: Memory) -> Self {
         Refusal::Memory
     }
 }
 
 impl From<AllocError> for Refusal {
+    ghost from_gives = { λ _ e. e ≡ OfText.Memory };
+
     fn from(_: AllocError) -> Self {
         Refusal::Memory
     }
 }
 
 impl<T: Drop> From<AllocFailed<T>> for Refusal {
+    ghost from_gives = { λ _ e. e ≡ OfText.Memory };
+
     fn from(_: AllocFailed<T>) -> Self {
         Refusal::Memory
     }
 }
 
 impl From<Refusal> for LoadError {
+    ghost from_gives = { λ refusal e. e ≡ load_error_of_refusal refusal };
+
     fn from(refusal: Refusal) -> Self {
         match refusal {
             Refusal::Unbuilt => LoadError::Unbuilt,
@@ -57,12 +70,16 @@ impl From<Refusal> for LoadError {
 }
 
 impl From<Memory> for LoadError {
+    ghost from_gives = { λ _ e. e ≡ OfFiles.Memory };
+
     fn from(_: Memory) -> Self {
         LoadError::Memory
     }
 }
 
 impl From<ShelfFault> for LoadError {
+    ghost from_gives = { λ fault e. e ≡ load_error_of_fault fault };
+
     fn from(fault: ShelfFault) -> Self {
         match fault {
             ShelfFault::Failed => LoadError::ReadFault,
