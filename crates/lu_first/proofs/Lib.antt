@@ -2,3 +2,5 @@ mod BytesLemmas
 mod NumberLemmas
 mod PiecesLemmas
 mod ReadingLemmas
+mod PlanLemmas
+mod ScheduleLemmas

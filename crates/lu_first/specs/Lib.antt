@@ -6,3 +6,7 @@ pub mod Reading
 pub mod Refused
 pub mod Read
 pub mod Faults
+pub mod Plan
+pub mod Schedule
+pub mod Parts
+pub mod Pushed
