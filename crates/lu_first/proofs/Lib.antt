@@ -4,3 +4,4 @@ mod PiecesLemmas
 mod ReadingLemmas
 mod PlanLemmas
 mod ScheduleLemmas
+mod LoadingLemmas

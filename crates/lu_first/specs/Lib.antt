@@ -10,3 +10,5 @@ pub mod Plan
 pub mod Schedule
 pub mod Parts
 pub mod Pushed
+pub mod Loading
+pub mod SetupData

@@ -1,6 +1,12 @@
-ghost use Rattle.std.specs.Prelude.{◌≡◌};
+ghost use Rattle.std.specs.Prelude.{◌≡◌, ◌≤◌, length, Some, IfOk, IfSome, MatchResult};
+ghost use Rattle.std.specs.Str.{IsAscii};
+ghost use Rattle.lu_spec.specs.Fault.{IsCaused};
 ghost use Rattle.lu_first.specs.declared.loading.Refusal.TheVariants as OfText;
 ghost use Rattle.lu_first.specs.declared.loading.LoadError.TheVariants as OfFiles;
+ghost use Rattle.lu_first.specs.Loading.{text_at, program_at, events_at, setup_at, IsLoadRefusal};
+ghost use Rattle.lu_first.specs.SetupData.{setup_data};
+ghost use Rattle.lu_first.specs.Parts.{parts_of, setup_with};
+ghost use Rattle.lu_first.specs.Read.{IsProgram};
 ghost use Rattle.lu_first.specs.Faults.{load_error_of_refusal, load_error_of_fault};
 
 use crate::plan::{Plan, read_plan};
@@ -90,11 +96,32 @@ impl From<ShelfFault> for LoadError {
 }
 
 /// Reads the plan of that name, its source and its schedule, in this order.
-pub fn load<S: Shelf>(alloc: Global, name: &str, shelf: &mut S) -> Result<Setup, LoadError> {
-    let text = shelf.read(alloc, name, MAX_TEXT)?;
-    let plan = read_plan(text.as_slice()).ok_or(LoadError::Unbuilt)?;
+#[tactic(auto, unfolding(crate::specs::Loading::setup_at))]
+pub fn load<S: Shelf>(alloc: Global, name: &str, shelf: &mut S) -> Result<Setup, LoadError>
+    ensures kept { S.holds shelf.new ≡ S.holds shelf.old }
+    ensures cause { IsCaused LoadError.ReadFault (S.faults shelf.old) (S.faults shelf.new) result }
+    ensures answer { IfSome (S.holds shelf.old) (λ files. MatchResult result
+        (λ setup. setup_at files name.now ≡ Some (setup_data setup)) (IsLoadRefusal (setup_at files name.now))) }
+{
+    let text = load_text(alloc, name, MAX_TEXT, shelf)?;
+    let Some(plan) = read_plan(text.as_slice()) else {
+        return Err(LoadError::Unbuilt);
+    };
     let program = load_source(alloc, plan.source, shelf)?;
     let events = load_schedule(alloc, plan.schedule, plan.name, shelf)?;
+    Ok(setup_from(alloc, &plan, program, events)?)
+}
+
+fn setup_from(
+    alloc: Global,
+    plan: &Plan,
+    program: Straight,
+    events: Vec<Event>,
+) -> Result<Setup, Memory>
+    requires name { IsAscii plan.now.name.now }
+    requires number { plan.now.number ≤ 16 }
+    ensures { IfOk result (λ setup. setup_data setup ≡ setup_with (parts_of plan.now) program events.items) }
+{
     Ok(Setup {
         name: Name::from_ascii(alloc, plan.name)?,
         number: plan.number as i32,
@@ -103,23 +130,53 @@ pub fn load<S: Shelf>(alloc: Global, name: &str, shelf: &mut S) -> Result<Setup,
     })
 }
 
+#[tactic(auto, unfolding(crate::specs::Loading::program_at))]
 fn load_source<S: Shelf>(
     alloc: Global,
     file: &[u8],
     shelf: &mut S,
-) -> Result<Straight, LoadError> {
+) -> Result<Straight, LoadError>
+    requires { IsAscii file.now }
+    ensures kept { S.holds shelf.new ≡ S.holds shelf.old }
+    ensures cause { IsCaused LoadError.ReadFault (S.faults shelf.old) (S.faults shelf.new) result }
+    ensures answer { IfSome (S.holds shelf.old) (λ files. MatchResult result
+        (λ straight. IsProgram (program_at files file.now) straight) (IsLoadRefusal (program_at files file.now))) }
+{
     let file = Name::from_ascii(alloc, file)?;
-    let text = shelf.read(alloc, file.as_str(), MAX_TEXT)?;
+    let text = load_text(alloc, file.as_str(), MAX_TEXT, shelf)?;
     Ok(read_source(alloc, text.as_slice())?)
 }
 
+#[tactic(auto, unfolding(crate::specs::Loading::events_at))]
 fn load_schedule<S: Shelf>(
     alloc: Global,
     file: &[u8],
     server: &[u8],
     shelf: &mut S,
-) -> Result<Vec<Event>, LoadError> {
+) -> Result<Vec<Event>, LoadError>
+    requires { IsAscii file.now }
+    ensures kept { S.holds shelf.new ≡ S.holds shelf.old }
+    ensures cause { IsCaused LoadError.ReadFault (S.faults shelf.old) (S.faults shelf.new) result }
+    ensures answer { IfSome (S.holds shelf.old) (λ files. MatchResult result
+        (λ events. events_at files file.now server.now ≡ Some events.items) (IsLoadRefusal (events_at files file.now server.now))) }
+{
     let file = Name::from_ascii(alloc, file)?;
-    let text = shelf.read(alloc, file.as_str(), MAX_SCHEDULE)?;
+    let text = load_text(alloc, file.as_str(), MAX_SCHEDULE, shelf)?;
     Ok(read_schedule(alloc, server, text.as_slice())?)
+}
+
+// The bytes of a file, where it is there and within the limit.
+#[tactic(auto, unfolding(crate::specs::Loading::text_at))]
+fn load_text<S: Shelf>(
+    alloc: Global,
+    name: &str,
+    max: u64,
+    shelf: &mut S,
+) -> Result<Bytes8, LoadError>
+    ensures kept { S.holds shelf.new ≡ S.holds shelf.old }
+    ensures cause { IsCaused LoadError.ReadFault (S.faults shelf.old) (S.faults shelf.new) result }
+    ensures answer { IfSome (S.holds shelf.old) (λ files. MatchResult result
+        (λ text. text_at (files name.now) max ≡ Some text) (IsLoadRefusal (text_at (files name.now) max))) }
+{
+    Ok(shelf.read(alloc, name, max)?)
 }

@@ -1,5 +1,5 @@
 // Plans of the first form.
-ghost use Rattle.std.specs.Prelude.{◌≡◌, true, MatchOption, IfSome, Some, None};
+ghost use Rattle.std.specs.Prelude.{◌≡◌, ◌≤◌, true, MatchOption, IfSome, Some, None};
 ghost use Rattle.std.specs.List.{list_all};
 ghost use Rattle.std.specs.Str.{IsAscii};
 ghost use Rattle.lu_first.specs.Bytes.{stripped, up_to};
@@ -21,6 +21,7 @@ pub struct Plan<'a> {
 pub fn read_plan(text: &[u8]) -> Option<Plan<'_>>
     ensures parts { MatchOption result (plan_of text.now ≡ None) (λ p. plan_of text.now ≡ Some (parts_of p)) }
     ensures ascii { IfSome result (λ p. IsAscii p.schedule.now × IsAscii p.name.now × IsAscii p.source.now) }
+    ensures number { IfSome result (λ p. p.number ≤ 16) }
 {
     let (schedule, rest) = split_between(text, "schedule = \"", b'"')?;
     let (name, rest) = split_between(rest, "\n[[server]]\nname = \"", b'"')?;
@@ -48,7 +49,8 @@ fn split_between<'a>(text: &'a [u8], front: &str, stop: u8) -> Option<(&'a [u8],
 }
 
 fn server_number(word: &[u8]) -> Option<u32>
-    ensures { result ≡ server_number word.now }
+    ensures value { result ≡ server_number word.now }
+    ensures bound { IfSome result (λ n. n ≤ 16) }
 {
     let number = literal(word)?;
     if 1 <= number && number <= 16 {
