@@ -1,3 +1,14 @@
 pub mod Bytes
+pub mod Names
 pub mod Number
 pub mod Pieces
+pub mod Reading
+pub mod Refused
+pub mod Read
+pub mod Faults
+pub mod Plan
+pub mod Schedule
+pub mod Parts
+pub mod Pushed
+pub mod Loading
+pub mod SetupData

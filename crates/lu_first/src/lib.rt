@@ -2,7 +2,8 @@
 #![tactic(auto)]
 
 mod bytes;
-mod load;
+mod loading;
+mod names;
 mod number;
 mod pieces;
 mod plan;
@@ -10,5 +11,5 @@ mod schedule;
 mod setup;
 mod source;
 
-pub use load::{LoadError, load};
+pub use loading::{LoadError, load};
 pub use setup::{Event, Setup};
