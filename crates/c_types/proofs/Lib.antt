@@ -4,6 +4,7 @@ pub mod Capped
 pub mod ChainLemmas
 pub mod Descending
 pub mod DescentLemmas
+mod Examples
 pub mod FieldLaws
 pub mod KeptLemmas
 pub mod Lists
