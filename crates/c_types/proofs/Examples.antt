@@ -1,15 +1,15 @@
 -- Worked examples of the definitions, by computation.
 use Rattle.std.proofs.Common.{◌≡◌, ◌+◌, ◌^◌, refl, [], ◌∷◌, Some, None, true, false, inl, inr, lit<}
 use Rattle.c_types.specs.declared.parts.IntKind.TheVariants.{Char, Short, Int as Int_kind, LongLong}
-use Rattle.c_types.specs.declared.parts.Ty.TheVariants.{Int, Pointer, VoidPointer, Function, Struct, Union, Array}
+use Rattle.c_types.specs.declared.parts.Ty.TheVariants.{Int, Pointer, VoidPointer, Struct, Union, Array}
 use Rattle.c_types.specs.declared.parts.Parts.{Parts}
 use Rattle.c_types.specs.declared.path.Step.TheVariants.{Index, Field, Member}
 use Rattle.c_types.specs.Numbering.{is_well_numbered}
-use Rattle.c_types.specs.Chain.{Chain, one, more, held_by, IsCyclic}
-use Rattle.c_types.specs.Layout.{shape, shape_of, size_of, field_offset, member_offset}
+use Rattle.c_types.specs.Chain.{one, more, IsCyclic}
+use Rattle.c_types.specs.Layout.{shape, shape_of, field_offset, member_offset}
 use Rattle.c_types.specs.Place.{place, path_place, object_place, IsPlaceAt}
 use Rattle.c_types.specs.Descent.{find_place}
-use Rattle.c_types.specs.Refusal.{is_too_big, IsDuplicate}
+use Rattle.c_types.specs.Refusal.{is_too_big}
 
 -- struct proc { int used; int pid; struct proc *next; }
 abbrev proc : Parts

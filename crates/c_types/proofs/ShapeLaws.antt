@@ -1,11 +1,8 @@
 -- Laws of sizes and alignments.
-use Rattle.std.proofs.Common.{◌≡◌, ◌∙◌, sym, ap, subst, refl, ℕ, zero, suc, ◌<◌, ◌≤◌, ◌+◌, ◌-◌, ◌*◌, ◌/◌, max, Bool, true, false, ◌&&◌, ◌||◌, ◌⊎◌, inl, inr, nat_lt, nat_le, List, [], ◌∷◌, ◌++◌, map, length, Option, Some, None, slice_get, arith}
-use Rattle.std.proofs.Math.Nat.{mul-le-mul_left}
+use Rattle.std.proofs.Common.{◌≡◌, ◌∙◌, sym, ap, subst, refl, ℕ, zero, suc, ◌<◌, ◌≤◌, ◌+◌, ◌*◌, max, Bool, true, false, ◌&&◌, ◌||◌, inl, nat_lt, nat_le, List, [], ◌∷◌, ◌++◌, map, length, Option, Some, None, slice_get, arith}
 use Rattle.std.proofs.lemmas.Bool.Decides.{nat_tests}
 use Rattle.std.proofs.lemmas.Option.{slice_get_within}
 use Rattle.std.specs.Prelude.{Contains, IsSomeAnd, not}
-use Rattle.std.specs.Option.{option_map}
-use Rattle.c_types.specs.declared.parts.IntKind.{IntKind}
 use Rattle.c_types.specs.declared.parts.IntKind.TheVariants.{Char, UChar, Short, UShort, Int as Int_kind, UInt, LongLong, ULongLong}
 use Rattle.c_types.specs.declared.parts.Ty.{Ty}
 use Rattle.c_types.specs.declared.parts.Ty.TheVariants.{Int, Pointer, VoidPointer, Function, Struct, Union, Array}
@@ -14,16 +11,14 @@ use Rattle.c_types.specs.declared.parts.FieldDef.{FieldDef}
 use Rattle.c_types.specs.declared.parts.Parts.{Parts}
 use Rattle.c_types.specs.declared.shape.Shape.{Shape}
 use Rattle.c_types.specs.Tables.{fields_in, fields_of, members_of}
-use Rattle.c_types.specs.Chain.{field_types, held_in, held_by, is_settled}
-use Rattle.c_types.specs.Recursion.{at_type, by_fuel, by_type, IsLocal}
-use Rattle.c_types.specs.Layout.{greatest, shape, next_multiple, int_size, IsMultiple, IsPointerSize, Shapes, greatest_align, greatest_size, field_start, field_end, fields_end, nth_start, struct_shape, members_start, union_align, union_shape, shape_step, shape_of, size_of, align_of}
+use Rattle.c_types.specs.Chain.{field_types, held_by, is_settled}
+use Rattle.c_types.specs.Recursion.{at_type, by_fuel, IsLocal}
+use Rattle.c_types.specs.Layout.{greatest, shape, next_multiple, IsMultiple, Shapes, greatest_align, greatest_size, field_end, fields_end, members_start, union_align, shape_step, shape_of, size_of}
 use Rattle.c_types.specs.Refusal.{Entry, type_entry, tag_entry, signature_entry, entries, HasNoField, has_bad_length, IsBuilt}
-use Rattle.c_types.proofs.Lists.{and_left, and_right}
 use Rattle.c_types.proofs.Numbered.{type_numbered}
-use Rattle.c_types.proofs.Alignment.{IsAlignment, one_byte, two_bytes, four_bytes, eight_bytes, IsAlignment-max, IsAlignment-low, IsMultiple-self, IsMultiple-zero, IsMultiple-times, IsMultiple-next}
-use Rattle.c_types.proofs.Capped.{next_multiple-above}
-use Rattle.c_types.proofs.MarkLemmas.{held_known, field-of}
-use Rattle.c_types.proofs.Settled.{settled_all, settled-edge, by_type-is}
+use Rattle.c_types.proofs.Alignment.{IsAlignment, one_byte, two_bytes, four_bytes, eight_bytes, IsAlignment-max, IsMultiple-self, IsMultiple-times, IsMultiple-next}
+use Rattle.c_types.proofs.MarkLemmas.{held_known}
+use Rattle.c_types.proofs.Settled.{settled_all, by_type-is}
 
 -- an alignment, and a size that is a multiple of it
 pub record IsSound (s : Shape) : Type 0 where

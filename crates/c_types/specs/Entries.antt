@@ -1,5 +1,4 @@
 -- What an entry of the code stands for.
-use Rattle.std.specs.Prelude.{ℕ, Option, slice_get}
 use Rattle.c_types.specs.declared.duplicates.Entry as Declared
 use Rattle.c_types.specs.declared.duplicates.Entry.TheVariants as V
 use Rattle.c_types.specs.Refusal.{Entry, type_entry, tag_entry, signature_entry}

@@ -1,9 +1,9 @@
-use Rattle.std.proofs.Common.{◌≡◌, ◌∙◌, sym, ap, subst, lit≤, length}
+use Rattle.std.proofs.Common.{◌∙◌, ap, subst, lit≤, length}
 use Rattle.std.specs.Prelude.{MatchOption}
 use Rattle.c_types.specs.Chain.{IsCyclic}
 use Rattle.c_types.specs.Refusal.{NoneIs, IsLeast}
 use Rattle.c_types.specs.Rounds.{shape_at}
-use Rattle.c_types.specs.Kept.{AreCapped, IsKept}
+use Rattle.c_types.specs.Kept.{AreCapped}
 use Rattle.c_types.proofs.Capped.{rounds-capped}
 use Rattle.c_types.proofs.KeptLemmas.{shapes-exact}
 use Rattle.c_types.proofs.table.TypeTable.build.Goals as goal
