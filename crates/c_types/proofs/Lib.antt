@@ -13,6 +13,7 @@ pub mod Numbered
 pub mod ObjectLaws
 pub mod PathLaws
 pub mod PlaceLaws
+pub mod Repeats
 pub mod RoundLemmas
 pub mod Settled
 pub mod TableLemmas

@@ -1,12 +1,14 @@
 // What stands twice in a table, and what has no field.
 
-ghost use Rattle.std.specs.Prelude.{◌≡◌, ◌⊎◌, ℕ, ◌+◌, ◌<◌, ◌≤◌, ◌^◌, [], length, MatchBool, MatchOption, IsTrue, slice_get};
+ghost use Rattle.std.specs.Prelude.{◌≡◌, ◌⊎◌, ℕ, ◌+◌, ◌<◌, ◌≤◌, ◌^◌, [], length, IfOk, MatchBool, MatchOption, IsTrue, slice_get};
 ghost use Rattle.std.specs.Option.{option_map};
 ghost use Rattle.c_types.specs.Numbering.{are_countable};
 ghost use Rattle.c_types.specs.Refusal.{entries, Clashes, HasNameBefore, NamesTwice, HasNameTwice, ClashesBefore, IsDuplicate, HasNoField, IsEmpty, IsLeast, NoneIs};
-ghost use Rattle.c_types.specs.Entries.{entry_of};
+ghost use Rattle.c_types.specs.Entries.{entry_of, IsRepeated};
 
 use crate::parts::{FieldDef, Parts, Signature, TagDef, Ty};
+use std::alloc::{AllocError, Global};
+use std::collections::HashSet;
 
 /// An entry of types, structs, unions and signatures as one list.
 #[derive(Clone, Copy)]
@@ -175,4 +177,17 @@ pub fn first_empty(parts: &Parts) -> Option<u64>
         }
     }
     None
+}
+
+/// The first type that equals an earlier one.
+fn first_repeated(alloc: Global, types: &[Ty]) -> Result<Option<usize>, AllocError>
+    ensures { IfOk result (λ first. MatchOption first (NoneIs (IsRepeated types.now)) (IsLeast (IsRepeated types.now))) }
+{
+    let mut seen = HashSet::new(alloc);
+    for (number, ty) in types.iter().enumerate() {
+        if !seen.insert(*ty)? {
+            return Ok(Some(number));
+        }
+    }
+    Ok(None)
 }
