@@ -1,24 +1,23 @@
 -- Types that equal an earlier one, against a set of those before.
-use Rattle.std.proofs.Common.{◌≡◌, ◌≢◌, ◌∙◌, sym, ap, subst, refl, ℕ, zero, suc, ◌<◌, ◌≤◌, ◌+◌, ◌⊎◌, inl, inr, Bool, true, false, ◌&&◌, ◌||◌, nat_eq, List, [], ◌∷◌, ◌++◌, map, length, get_or, take, Option, Some, None, slice_get, arith, add-one, rules}
+use Rattle.std.proofs.Common.{◌≡◌, ◌∙◌, sym, ap, subst, refl, ℕ, zero, suc, ◌<◌, ◌+◌, ◌⊎◌, inl, inr, Bool, true, false, ◌&&◌, ◌||◌, nat_eq, List, [], ◌∷◌, ◌++◌, map, length, get_or, take, Option, Some, slice_get, arith, rules}
 use Rattle.std.proofs.lemmas.Bool.Decides.{nat_tests}
 use Rattle.std.proofs.lemmas.List.{take_more}
 use Rattle.std.proofs.lemmas.List.Sorted.{Contains-permutation, IsPermutation-append_comm, IsPermutation-cons, IsPermutation-trans, IsPermutation-sym}
 use Rattle.std.proofs.lemmas.Map.Views.{Contains-from_any}
-use Rattle.std.proofs.lemmas.Option.{slice_get_within}
 use Rattle.std.specs.Prelude.{Contains, IsSomeAnd}
 use Rattle.std.specs.List.{list_any}
 use Rattle.std.specs.List.Sorted.{IsPermutation}
 use denote.Enum.Bare.{same_true}
 use Rattle.c_types.specs.contracts.parts.IntKind.{the_type}
 use Rattle.c_types.specs.contracts.parts.TyPartialEq.TheImpl.{eq-value}
-use Rattle.c_types.specs.declared.parts.IntKind.{IntKind}
 use Rattle.c_types.specs.declared.parts.IntKind.TheVariants.{Char, UChar, Short, UShort, Int as Int_kind, UInt, LongLong, ULongLong}
 use Rattle.c_types.specs.declared.parts.Ty.{Ty}
 use Rattle.c_types.specs.declared.parts.Ty.TheVariants.{Int, Pointer, VoidPointer, Function, Struct, Union, Array}
 use Rattle.c_types.specs.declared.parts.Parts.{Parts}
-use Rattle.c_types.specs.Refusal.{Entry, type_entry, tag_entry, signature_entry, entries, Clashes, HasNameTwice, ClashesBefore, IsDuplicate, IsLeast, NoneIs}
+use Rattle.c_types.specs.Refusal.{Entry, type_entry, entries, Clashes, HasNameTwice, ClashesBefore, IsDuplicate}
 use Rattle.c_types.specs.Entries.{IsRepeated}
 use Rattle.c_types.proofs.Lists.{and_left, and_right}
+use Rattle.c_types.proofs.ShapeLaws.{get-before, get-map, some_within}
 
 same_number : (a b : ℕ) → nat_eq a b ≡ true → a ≡ b
 same_number a b h = grind (arith, nat_tests)
@@ -106,3 +105,50 @@ module _ (types keys : List Ty) (n : ℕ) (d : Ty) (within : n < length types) (
       let t = get_or types n d in
       let P : List Ty → Type 0 = λ l. IsPermutation l new in
       subst P (sym (take_more types n d within)) (IsPermutation-trans (take n types ++ t ∷ []) (t ∷ keys) new (IsPermutation-trans (take n types ++ t ∷ []) (t ∷ take n types) (t ∷ keys) (IsPermutation-append_comm (take n types) (t ∷ [])) (IsPermutation-cons t (take n types) keys kept)) h)
+
+module _ (p : Parts) where
+  type-at : (n : ℕ) (t : Ty) → slice_get p.types n ≡ Some t → slice_get (entries p) n ≡ Some (type_entry t)
+  type-at n t e = get-before (map type_entry p.types) _ n (type_entry t) (get-map type_entry p.types n t e)
+
+  type-known : (n : ℕ) → n < length p.types → (t : Ty) × (slice_get p.types n ≡ Some t)
+  type-known n h = some_within p.types n h
+
+  -- where an entry is a type, a clash is an equal type
+  clash-type : (m : ℕ) (t : Ty) → m < length p.types → IsSomeAnd (slice_get (entries p) m) (λ d. Clashes d (type_entry t)) → slice_get p.types m ≡ Some t
+  clash-type m t h clash =
+      let u = type-known m h in
+      let P : Option Entry → Type 0 = λ o. IsSomeAnd o (λ d. Clashes d (type_entry t)) in
+      let same : IsSomeAnd (Some (type_entry u.0)) (λ d. Clashes d (type_entry t)) = subst P (type-at m u.0 u.1) clash in
+      u.1 ∙ ap Some same
+
+  pub duplicate-repeated : (n : ℕ) → n < length p.types → IsDuplicate p n → IsRepeated p.types n
+  duplicate-repeated n h d =
+      let t = type-known n h in
+      let P : Option Entry → Type 0 = λ o. IsSomeAnd o (λ e. ClashesBefore (entries p) n e ⊎ HasNameTwice e) in
+      let here : IsSomeAnd (Some (type_entry t.0)) (λ e. ClashesBefore (entries p) n e ⊎ HasNameTwice e) = subst P (type-at n t.0 t.1) d in
+      by_case t.0 t.1 here
+    where
+      by_case : (t : Ty) → slice_get p.types n ≡ Some t → ClashesBefore (entries p) n (type_entry t) ⊎ HasNameTwice (type_entry t) → IsRepeated p.types n
+      by_case t e (inl (m, lt, clash)) =
+          let Q : Option Ty → Type 0 = λ o. IsSomeAnd o (λ t. (m : ℕ) × (m < n) × (slice_get p.types m ≡ Some t)) in
+          let before : IsSomeAnd (Some t) (λ t. (m : ℕ) × (m < n) × (slice_get p.types m ≡ Some t)) = (m, lt, clash-type m t (omega arith) clash) in
+          subst Q (sym e) before
+      by_case t e (inr x) = absurd x
+
+  pub repeated-duplicate : (n : ℕ) → n < length p.types → IsRepeated p.types n → IsDuplicate p n
+  repeated-duplicate n h r =
+      let t = type-known n h in
+      let Q : Option Ty → Type 0 = λ o. IsSomeAnd o (λ t. (m : ℕ) × (m < n) × (slice_get p.types m ≡ Some t)) in
+      let before : IsSomeAnd (Some t.0) (λ t. (m : ℕ) × (m < n) × (slice_get p.types m ≡ Some t)) = subst Q t.1 r in
+      let P : Option Entry → Type 0 = λ o. IsSomeAnd o (λ e. ClashesBefore (entries p) n e ⊎ HasNameTwice e) in
+      let R : Option Entry → Type 0 = λ o. IsSomeAnd o (λ d. Clashes d (type_entry t.0)) in
+      let clash : IsSomeAnd (Some (type_entry t.0)) (λ d. Clashes d (type_entry t.0)) = refl in
+      let here : IsSomeAnd (Some (type_entry t.0)) (λ e. ClashesBefore (entries p) n e ⊎ HasNameTwice e) = inl (before.0, before.1, subst R (sym (type-at before.0 t.0 before.2)) clash) in
+      subst P (sym (type-at n t.0 t.1)) here
+
+  -- a type clashes with no entry of another kind
+  pub type-apart : (k : ℕ) (e : Entry) → k < length p.types → ((t : Ty) → Clashes (type_entry t) e → ⊥) → IsSomeAnd (slice_get (entries p) k) (λ d. Clashes d e) → ⊥
+  type-apart k e h none clash =
+      let u = type-known k h in
+      let P : Option Entry → Type 0 = λ o. IsSomeAnd o (λ d. Clashes d e) in
+      none u.0 (subst P (type-at k u.0 u.1) clash)

@@ -107,21 +107,21 @@ shape_step-local w p f g (Union u) same =
 shape_step-local w p f g (Array t n) same = ap (λ (s : Shape). shape (s.size * n) s.align) (same t (0, omega arith, refl))
 
 -- an entry among those before and after it
-get-after : {A : Type 0} (xs ys : List A) (k : ℕ) → slice_get (xs ++ ys) (length xs + k) ≡ slice_get ys k
+pub get-after : {A : Type 0} (xs ys : List A) (k : ℕ) → slice_get (xs ++ ys) (length xs + k) ≡ slice_get ys k
 get-after [] ys k = let z : 0 + k ≡ k = omega arith in ap (slice_get ys) z
 get-after (x ∷ xs) ys k = let z : suc (length xs) + k ≡ suc (length xs + k) = omega arith in ap (slice_get (x ∷ (xs ++ ys))) z ∙ get-after xs ys k
 
-get-before : {A : Type 0} (xs ys : List A) (k : ℕ) (x : A) → slice_get xs k ≡ Some x → slice_get (xs ++ ys) k ≡ Some x
+pub get-before : {A : Type 0} (xs ys : List A) (k : ℕ) (x : A) → slice_get xs k ≡ Some x → slice_get (xs ++ ys) k ≡ Some x
 get-before [] ys k x e = cc
 get-before (y ∷ xs) ys zero x e = e
 get-before (y ∷ xs) ys (suc k) x e = get-before xs ys k x e
 
-get-map : {A B : Type 0} (f : A → B) (xs : List A) (k : ℕ) (x : A) → slice_get xs k ≡ Some x → slice_get (map f xs) k ≡ Some (f x)
+pub get-map : {A B : Type 0} (f : A → B) (xs : List A) (k : ℕ) (x : A) → slice_get xs k ≡ Some x → slice_get (map f xs) k ≡ Some (f x)
 get-map f [] k x e = cc
 get-map f (y ∷ xs) zero x e = let q : y ≡ x = cc in ap (λ z. Some (f z)) q
 get-map f (y ∷ xs) (suc k) x e = get-map f xs k x e
 
-some_within : {A : Type 0} (xs : List A) (k : ℕ) → k < length xs → (x : A) × (slice_get xs k ≡ Some x)
+pub some_within : {A : Type 0} (xs : List A) (k : ℕ) → k < length xs → (x : A) × (slice_get xs k ≡ Some x)
 some_within [] k h = absurd (omega arith)
 some_within (x ∷ xs) zero h = (x, refl)
 some_within (x ∷ xs) (suc k) h = some_within xs k (omega arith)

@@ -1,11 +1,10 @@
-use Rattle.std.proofs.Common.{◌≡◌, ◌<◌, ◌∙◌, sym, subst, refl, ℕ, Bool, true, false, ◌∷◌, length, Some, slice_get, below_more, get_or, arith}
-use Rattle.std.specs.Prelude.{not, MatchBool}
+use Rattle.std.proofs.Common.{◌≡◌, ◌<◌, subst, refl, ℕ, Bool, true, false, ◌∷◌, Some, slice_get, below_more, get_or, arith}
+use Rattle.std.specs.Prelude.{not}
 use Rattle.std.specs.List.{list_any}
 use Rattle.std.specs.List.Sorted.{IsPermutation}
 use Rattle.std.specs.HashSet.{PutsKey}
 use Rattle.c_types.specs.contracts.parts.TyPartialEq.TheImpl.{eq-value}
 use Rattle.c_types.specs.declared.parts.IntKind.TheVariants.{Char}
-use Rattle.c_types.specs.declared.parts.Ty.{Ty}
 use Rattle.c_types.specs.declared.parts.Ty.TheVariants.{Int}
 use Rattle.c_types.specs.Entries.{IsRepeated}
 use Rattle.c_types.proofs.Lists.{within-some_and}
