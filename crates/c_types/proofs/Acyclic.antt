@@ -1,10 +1,10 @@
 -- Tables in which no type holds itself.
-use Rattle.std.proofs.Common.{◌≡◌, ◌∙◌, sym, ap, ℕ, zero, suc, ◌<◌, ◌≤◌, ◌⊎◌, inl, inr, List, [], ◌∷◌, length, Option, Some, None, slice_get, arith, refl}
+use Rattle.std.proofs.Common.{◌≡◌, ℕ, ◌<◌, ◌⊎◌, inl, inr, length, Option, Some, None, slice_get, arith, refl}
 use Rattle.std.proofs.lemmas.Option.{slice_get_within}
 use Rattle.std.specs.Prelude.{Contains}
 use Rattle.c_types.specs.declared.parts.Ty.{Ty}
 use Rattle.c_types.specs.declared.parts.Parts.{Parts}
-use Rattle.c_types.specs.Chain.{Edges, Chain, one, more, held_in, held_by, pointed_in, pointed_by, IsPointer, IsCyclic}
+use Rattle.c_types.specs.Chain.{Edges, Chain, one, more, held_in, held_by, pointed_in, pointed_by, IsCyclic}
 
 first_edge : (edges : Edges) {t u : ℕ} → Chain edges t u → (v : ℕ) × Contains (edges t) v
 first_edge edges (one {u = u} c) = (u, c)

@@ -1,5 +1,5 @@
 -- Alignments, and multiples of them.
-use Rattle.std.proofs.Common.{◌≡◌, ◌∙◌, sym, ap, refl, ℕ, ◌<◌, ◌≤◌, ◌+◌, ◌-◌, ◌*◌, ◌/◌, max, ◌⊎◌, inl, inr, arith}
+use Rattle.std.proofs.Common.{◌∙◌, ap, refl, ℕ, ◌≤◌, ◌+◌, ◌-◌, ◌*◌, ◌/◌, max, inl, inr, arith}
 use Rattle.c_types.specs.Layout.{next_multiple, IsMultiple, IsPointerSize}
 
 -- 1, 2, 4 or 8

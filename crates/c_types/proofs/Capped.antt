@@ -1,5 +1,5 @@
 -- Shapes with capped sizes follow the shapes.
-use Rattle.std.proofs.Common.{◌≡◌, ◌∙◌, sym, ap, refl, ℕ, zero, suc, ◌<◌, ◌≤◌, ◌+◌, ◌-◌, ◌*◌, ◌/◌, ◌^◌, max, min, ◌⊎◌, inl, inr, List, [], ◌∷◌, map, replicate, length, Option, Some, None, slice_get, arith, unwrap_or}
+use Rattle.std.proofs.Common.{◌≡◌, ◌∙◌, ap, refl, ℕ, zero, suc, ◌<◌, ◌≤◌, ◌+◌, ◌*◌, max, min, ◌⊎◌, inl, inr, List, [], ◌∷◌, map, replicate, length, Option, Some, None, slice_get, arith}
 use mathlib.Core.Path.{fun_ext}
 use Rattle.std.proofs.Math.Nat.{mul-le-mul_left}
 use Rattle.std.proofs.lemmas.Bool.{cases_lt}
@@ -13,7 +13,7 @@ use Rattle.c_types.specs.declared.parts.Parts.{Parts}
 use Rattle.c_types.specs.declared.shape.Shape.{Shape}
 use Rattle.c_types.specs.Tables.{fields_of, members_of}
 use Rattle.c_types.specs.Recursion.{at_type, by_fuel}
-use Rattle.c_types.specs.Layout.{greatest, shape, next_multiple, int_size, IsPointerSize, Shapes, greatest_align, greatest_size, field_start, field_end, fields_end, struct_shape, members_start, union_align, union_shape, shape_step, shape_of, size_of}
+use Rattle.c_types.specs.Layout.{greatest, shape, next_multiple, int_size, Shapes, greatest_align, greatest_size, field_start, field_end, fields_end, members_start, union_align, shape_step}
 use Rattle.c_types.specs.Rounds.{shape_at, capped, round_shape, shape_rounds}
 use Rattle.c_types.proofs.Shapes.{greatest_align-low}
 

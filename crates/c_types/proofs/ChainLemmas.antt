@@ -1,10 +1,10 @@
 -- Chains against walks of so many edges.
-use Rattle.std.proofs.Common.{◌≡◌, ◌∙◌, sym, ap, subst, ℕ, zero, suc, ◌<◌, ◌≤◌, ◌+◌, Bool, true, false, ◌&&◌, ◌||◌, ◌⊎◌, inl, inr, eqb, nat_eq, List, [], ◌∷◌, length, arith, refl}
+use Rattle.std.proofs.Common.{◌≡◌, ◌∙◌, sym, ap, subst, ℕ, zero, suc, ◌<◌, ◌≤◌, Bool, true, false, ◌||◌, ◌⊎◌, inl, inr, eqb, nat_eq, List, [], ◌∷◌, length, arith, refl}
 use Rattle.std.proofs.lemmas.Bool.Decides.{nat_tests}
 use Rattle.std.proofs.lemmas.Map.Steps.{length-le_from_distinct_below}
 use Rattle.std.specs.Prelude.{Contains}
-use Rattle.std.specs.List.{IsDistinct, AllByRecursion, list_any, list_all}
-use Rattle.c_types.specs.Chain.{Edges, Chain, one, more, is_settled}
+use Rattle.std.specs.List.{IsDistinct, AllByRecursion, list_any}
+use Rattle.c_types.specs.Chain.{Edges, Chain, one, more}
 use Rattle.c_types.specs.Rounds.{reaches}
 
 pub same_number : (a b : ℕ) → eqb a b ≡ true → a ≡ b

@@ -1,5 +1,5 @@
 -- The descent finds exactly the place.
-use Rattle.std.proofs.Common.{◌≡◌, ◌∙◌, sym, ap, subst, refl, ℕ, zero, suc, ◌<◌, ◌≤◌, ◌+◌, ◌-◌, ◌*◌, ◌/◌, ◌%◌, Bool, true, false, ◌&&◌, ◌||◌, ◌⊎◌, inl, inr, nat_eq, nat_lt, if◌then◌else◌, List, [], ◌∷◌, length, Option, Some, None, slice_get, arith}
+use Rattle.std.proofs.Common.{◌≡◌, ◌∙◌, sym, ap, subst, refl, ℕ, zero, suc, ◌<◌, ◌≤◌, ◌+◌, ◌-◌, ◌*◌, ◌/◌, ◌%◌, Bool, true, false, ◌||◌, ◌⊎◌, inl, inr, nat_eq, nat_lt, if◌then◌else◌, List, [], ◌∷◌, length, Option, Some, None, slice_get, arith}
 use Rattle.std.proofs.Math.Nat.{div-mul-le_self, lt-div-mul-add}
 use Rattle.std.proofs.lemmas.Bool.{cases_order}
 use Rattle.std.proofs.lemmas.Bool.Decides.{nat_tests}
@@ -18,18 +18,17 @@ use Rattle.c_types.specs.declared.path.Step.TheVariants.{Index, Field, Member}
 use Rattle.c_types.specs.declared.descent.Part.{Part}
 use Rattle.c_types.specs.Tables.{fields_of}
 use Rattle.c_types.specs.Recursion.{depth}
-use Rattle.c_types.specs.Layout.{Shapes, field_start, field_end, nth_start, shape_of, size_of, align_of, field_offset}
+use Rattle.c_types.specs.Layout.{Shapes, field_start, field_end, nth_start, shape_of, size_of, field_offset}
 use Rattle.c_types.specs.declared.path.Place.{Place}
-use Rattle.c_types.specs.Place.{place, shifted, step_place, path_place, object_place, is_member, IsOutsideUnions, IsPlaceAt, HasNoPlaceAt}
-use Rattle.c_types.specs.Descent.{part, part_in_fields, part_in_array, part_at, is_here, descend, find_place}
+use Rattle.c_types.specs.Place.{place, shifted, step_place, path_place, is_member, IsOutsideUnions}
+use Rattle.c_types.specs.Descent.{part, part_in_fields, part_in_array, part_at, is_here, descend}
 use Rattle.c_types.specs.Refusal.{IsBuilt}
 use Rattle.c_types.proofs.Lists.{and_left, and_right}
 use Rattle.c_types.proofs.Alignment.{IsAlignment}
 use Rattle.c_types.proofs.FieldLaws.{nth-above}
 use Rattle.c_types.proofs.MarkLemmas.{held_known}
-use Rattle.c_types.proofs.PlaceLaws.{same-place, index-step, field-step, after, step-held, First, first-of, low, size-low}
+use Rattle.c_types.proofs.PlaceLaws.{same-place, index-step, field-step, after, step-held, first-of, low, size-low}
 use Rattle.c_types.proofs.PathLaws.{or_false, path-within, path-known, path-depth}
-use Rattle.c_types.proofs.Settled.{depth-high, depth-low}
 
 module _ (known : Shapes) (low : (t : ℕ) → 1 ≤ (known t).align) where
   -- the field that has a byte is found

@@ -1,7 +1,7 @@
 -- Where the fields of a struct and the members of a union stand.
-use Rattle.std.proofs.Common.{◌≡◌, ◌∙◌, sym, ap, refl, ℕ, zero, suc, ◌<◌, ◌≤◌, ◌+◌, max, List, [], ◌∷◌, Option, Some, None, slice_get, arith}
+use Rattle.std.proofs.Common.{◌≡◌, ap, ℕ, zero, suc, ◌<◌, ◌≤◌, ◌+◌, List, [], ◌∷◌, Some, slice_get, arith}
 use Rattle.c_types.specs.declared.parts.FieldDef.{FieldDef}
-use Rattle.c_types.specs.Layout.{next_multiple, IsMultiple, Shapes, greatest_align, greatest_size, field_start, field_end, fields_end, nth_start}
+use Rattle.c_types.specs.Layout.{IsMultiple, Shapes, greatest_align, greatest_size, field_end, fields_end, nth_start}
 use Rattle.c_types.proofs.Alignment.{IsMultiple-next}
 use Rattle.c_types.proofs.Capped.{next_multiple-above}
 

@@ -1,12 +1,12 @@
 -- Where no type is too big, capped shapes are the shapes.
-use Rattle.std.proofs.Common.{◌≡◌, ◌∙◌, sym, ap, refl, ℕ, ◌<◌, ◌≤◌, ◌+◌, ◌^◌, min, Bool, true, false, ◌||◌, nat_lt, List, slice_get, arith}
+use Rattle.std.proofs.Common.{◌≡◌, ◌∙◌, ap, refl, ℕ, ◌≤◌, ◌+◌, min, Bool, true, false, ◌||◌, nat_lt, List, slice_get, arith}
 use Rattle.std.proofs.lemmas.Bool.Decides.{nat_tests}
 use Rattle.c_types.specs.declared.parts.Parts.{Parts}
 use Rattle.c_types.specs.declared.shape.Shape.{Shape}
 use Rattle.c_types.specs.Layout.{greatest, shape, size_of, align_of, shape_of}
-use Rattle.c_types.specs.Rounds.{shape_at, capped, shape_rounds}
-use Rattle.c_types.specs.Refusal.{has_bad_length, is_too_big, IsTooBig, NoneIs, IsBuilt}
-use Rattle.c_types.specs.Kept.{AreCapped, IsKept}
+use Rattle.c_types.specs.Rounds.{shape_at}
+use Rattle.c_types.specs.Refusal.{has_bad_length, IsTooBig, NoneIs}
+use Rattle.c_types.specs.Kept.{AreCapped}
 
 pub size-small : (w : ℕ) (p : Parts) → NoneIs (IsTooBig w p) → (t : ℕ) → size_of w p t ≤ greatest
 size-small w p small t = by_test (nat_lt greatest (size_of w p t)) refl (small t)

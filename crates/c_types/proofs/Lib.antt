@@ -4,6 +4,7 @@ pub mod Capped
 pub mod ChainLemmas
 pub mod Descending
 pub mod DescentLemmas
+mod Examples
 pub mod FieldLaws
 pub mod KeptLemmas
 pub mod Lists
@@ -12,6 +13,7 @@ pub mod Numbered
 pub mod ObjectLaws
 pub mod PathLaws
 pub mod PlaceLaws
+pub mod Repeats
 pub mod RoundLemmas
 pub mod Settled
 pub mod TableLemmas

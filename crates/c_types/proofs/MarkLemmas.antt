@@ -1,7 +1,5 @@
 -- Marks after rounds over a table, and what they decide.
-use Rattle.std.proofs.Common.{◌≡◌, ◌∙◌, sym, ap, ℕ, zero, suc, ◌<◌, ◌+◌, Bool, true, false, ◌||◌, nat_eq, List, [], ◌∷◌, map, replicate, length, Option, Some, None, slice_get, arith, refl}
-use Rattle.std.proofs.lemmas.Bool.Decides.{nat_tests}
-use Rattle.std.proofs.lemmas.Option.{slice_get_within}
+use Rattle.std.proofs.Common.{◌≡◌, ◌∙◌, sym, ap, ℕ, zero, suc, ◌<◌, Bool, true, false, ◌||◌, nat_eq, List, [], ◌∷◌, map, replicate, length, Option, Some, None, slice_get, arith, refl}
 use Rattle.std.specs.Prelude.{Contains, MatchBool}
 use Rattle.std.specs.List.{list_any}
 use Rattle.std.specs.Option.{option_map_or}
@@ -11,7 +9,7 @@ use Rattle.c_types.specs.declared.parts.FieldDef.{FieldDef}
 use Rattle.c_types.specs.declared.parts.Parts.{Parts}
 use Rattle.c_types.specs.Tables.{fields_of, members_of}
 use Rattle.c_types.specs.Numbering.{is_well_numbered}
-use Rattle.c_types.specs.Chain.{Edges, Chain, field_types, held_in, held_by, pointed_in, pointed_by, IsPointer}
+use Rattle.c_types.specs.Chain.{Edges, Chain, field_types, held_in, held_by, pointed_in, pointed_by}
 use Rattle.c_types.specs.Rounds.{reaches, is_target, mark_at, is_marked, round_mark, mark_rounds}
 use Rattle.c_types.proofs.Numbered.{field_known, member_known, element_known, pointee_known}
 use Rattle.c_types.proofs.ChainLemmas.{chain_of-reaches, reaches-chain, reaches-long}

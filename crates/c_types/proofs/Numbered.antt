@@ -1,19 +1,15 @@
 -- What a well-numbered table has.
-use Rattle.std.proofs.Common.{◌≡◌, ◌∙◌, sym, ap, ℕ, zero, suc, ◌<◌, ◌^◌, ◌-◌, Bool, true, false, ◌&&◌, nat_lt, List, [], ◌∷◌, map, length, Option, Some, None, slice_get, arith, refl}
+use Rattle.std.proofs.Common.{◌≡◌, ◌∙◌, sym, ap, ℕ, zero, suc, ◌<◌, ◌^◌, ◌-◌, Bool, true, false, ◌&&◌, List, [], ◌∷◌, length, Option, Some, None, slice_get, arith, refl}
 use Rattle.std.proofs.lemmas.Bool.Decides.{nat_tests}
-use Rattle.std.proofs.lemmas.Option.{slice_get_within}
-use Rattle.std.specs.Prelude.{Contains}
 use Rattle.std.specs.List.{list_all}
 use Rattle.c_types.proofs.Lists.{and_left, and_right}
 use Rattle.c_types.specs.declared.parts.Ty.{Ty}
-use Rattle.c_types.specs.declared.parts.Ty.TheVariants.{Int, Pointer, VoidPointer, Function, Struct, Union, Array}
+use Rattle.c_types.specs.declared.parts.Ty.TheVariants.{Pointer, Array}
 use Rattle.c_types.specs.declared.parts.TagDef.{TagDef}
 use Rattle.c_types.specs.declared.parts.FieldDef.{FieldDef}
-use Rattle.c_types.specs.declared.parts.Signature.{Signature}
 use Rattle.c_types.specs.declared.parts.Parts.{Parts}
 use Rattle.c_types.specs.Tables.{fields_in, fields_of, members_of}
 use Rattle.c_types.specs.Numbering.{is_countable, names_entry, type_is_numbered, tag_is_numbered, signature_is_numbered, are_countable, is_well_numbered}
-use Rattle.c_types.specs.Chain.{field_types, held_in, held_by, pointed_in, pointed_by}
 
 pub and_both : (a b : Bool) → a ≡ true → b ≡ true → a && b ≡ true
 and_both true b p q = q

@@ -1,26 +1,24 @@
 -- Laws of the places of an object.
-use Rattle.std.proofs.Common.{◌≡◌, ◌∙◌, sym, ap, subst, refl, ℕ, zero, suc, ◌<◌, ◌≤◌, ◌+◌, ◌-◌, ◌*◌, ◌/◌, ◌%◌, Bool, true, false, ◌⊎◌, inl, inr, nat_lt, if◌then◌else◌, List, [], ◌∷◌, ◌++◌, length, Option, Some, None, arith}
+use Rattle.std.proofs.Common.{◌≡◌, ◌∙◌, sym, ap, subst, refl, ℕ, ◌<◌, ◌≤◌, ◌+◌, ◌-◌, ◌*◌, Bool, true, false, ◌⊎◌, inl, inr, nat_lt, if◌then◌else◌, List, [], ◌∷◌, length, Option, Some, None, arith}
 use Rattle.std.proofs.lemmas.Bool.{cases_order}
 use Rattle.std.proofs.lemmas.Bool.Decides.{nat_tests}
 use Rattle.std.specs.Prelude.{MatchOption, MatchBool, is_some}
 use Rattle.std.specs.List.{list_any}
 use Rattle.std.specs.Option.{option_map}
 use Rattle.lu_spec.specs.Then.{then_option}
-use Rattle.lu_spec.specs.Prefix.{IsPrefix}
 use Rattle.lu_spec.proofs.ThenLemmas.{then_some}
 use Rattle.c_types.specs.declared.parts.Parts.{Parts}
 use Rattle.c_types.specs.declared.path.Step.{Step}
 use Rattle.c_types.specs.declared.path.Step.TheVariants.{Index, Field, Member}
 use Rattle.c_types.specs.declared.descent.Part.{Part}
-use Rattle.c_types.specs.Recursion.{depth}
 use Rattle.c_types.specs.Layout.{IsMultiple, size_of, align_of}
 use Rattle.c_types.specs.declared.path.Place.{Place}
 use Rattle.c_types.specs.Place.{place, shifted, path_place, object_place, is_member, IsOutsideUnions, IsPlaceAt, HasPlaceAt, HasNoPlaceAt}
-use Rattle.c_types.specs.Descent.{part, part_in_array, descend, find_place}
+use Rattle.c_types.specs.Descent.{part_in_array, descend, find_place}
 use Rattle.c_types.specs.Refusal.{IsBuilt}
 use Rattle.c_types.proofs.Alignment.{IsAlignment, IsMultiple-greater, IsMultiple-times, IsMultiple-trans, IsMultiple-add}
 use Rattle.c_types.proofs.ShapeLaws.{shape-sound}
-use Rattle.c_types.proofs.PlaceLaws.{after, size-low, IsAlignedPart}
+use Rattle.c_types.proofs.PlaceLaws.{after, size-low}
 use Rattle.c_types.proofs.PathLaws.{Apart, IsNested, path-within, path-known, path-depth, path-aligned, path-apart}
 use Rattle.c_types.proofs.Settled.{depth-high, depth-low}
 use Rattle.c_types.proofs.DescentLemmas.{array-find, FoundItem, array-sound, descend-find, descend-sound}

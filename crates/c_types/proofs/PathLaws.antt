@@ -1,13 +1,9 @@
 -- Laws of paths and of the places of an object: a place lies inside, is aligned, and two places outside unions share
 -- bytes only where one is in the other.
-use Rattle.std.proofs.Common.{◌≡◌, ◌∙◌, sym, ap, subst, refl, ℕ, zero, suc, ◌<◌, ◌≤◌, ◌+◌, ◌*◌, Bool, true, false, ◌||◌, ◌⊎◌, inl, inr, nat_lt, if◌then◌else◌, List, [], ◌∷◌, ◌++◌, length, Option, Some, None, slice_get, arith}
+use Rattle.std.proofs.Common.{◌≡◌, ◌∙◌, sym, ap, subst, refl, ℕ, ◌<◌, ◌≤◌, ◌+◌, ◌*◌, Bool, true, false, ◌||◌, ◌⊎◌, inl, inr, nat_lt, List, [], ◌∷◌, ◌++◌, length, Option, Some, None, slice_get, arith}
 use Rattle.std.proofs.lemmas.Bool.{cases_order}
-use Rattle.std.proofs.lemmas.Bool.Decides.{nat_tests}
-use Rattle.std.specs.List.{list_any}
-use Rattle.lu_spec.specs.Then.{then_option}
 use Rattle.lu_spec.specs.Prefix.{IsPrefix}
-use Rattle.lu_spec.proofs.ThenLemmas.{then_some}
-use Rattle.lu_spec.proofs.PrefixLemmas.{IsPrefix-nil, IsPrefix-behind}
+use Rattle.lu_spec.proofs.PrefixLemmas.{IsPrefix-nil}
 use Rattle.c_types.specs.declared.parts.Ty.{Ty}
 use Rattle.c_types.specs.declared.parts.Ty.TheVariants.{Int, Pointer, VoidPointer, Function, Struct, Union, Array}
 use Rattle.c_types.specs.declared.parts.FieldDef.{FieldDef}
@@ -15,18 +11,17 @@ use Rattle.c_types.specs.declared.parts.Parts.{Parts}
 use Rattle.c_types.specs.declared.path.Step.{Step}
 use Rattle.c_types.specs.declared.path.Step.TheVariants.{Index, Field, Member}
 use Rattle.c_types.specs.Tables.{fields_of}
-use Rattle.c_types.specs.Chain.{held_by}
 use Rattle.c_types.specs.Recursion.{depth}
 use Rattle.c_types.specs.Layout.{IsMultiple, shape_of, size_of, align_of, field_offset}
 use Rattle.c_types.specs.declared.path.Place.{Place}
-use Rattle.c_types.specs.Place.{place, shifted, step_place, path_place, object_place, is_member, IsOutsideUnions}
+use Rattle.c_types.specs.Place.{place, step_place, path_place, is_member, IsOutsideUnions}
 use Rattle.c_types.specs.Refusal.{IsBuilt}
-use Rattle.c_types.proofs.Alignment.{IsAlignment, IsMultiple-greater, IsMultiple-self, IsMultiple-zero, IsMultiple-times, IsMultiple-trans, IsMultiple-add}
+use Rattle.c_types.proofs.Alignment.{IsAlignment, IsMultiple-greater, IsMultiple-zero, IsMultiple-trans, IsMultiple-add}
 use Rattle.c_types.proofs.FieldLaws.{nth-before}
 use Rattle.c_types.proofs.MarkLemmas.{held_known}
 use Rattle.c_types.proofs.Settled.{depth-falls}
 use Rattle.c_types.proofs.ShapeLaws.{shape-sound, settled}
-use Rattle.c_types.proofs.PlaceLaws.{same-place, index-step, field-step, after, step-held, First, first-of, low, size-low, step-within, IsAlignedPart, step-aligned}
+use Rattle.c_types.proofs.PlaceLaws.{same-place, index-step, field-step, after, step-held, First, first-of, low, step-within, IsAlignedPart, step-aligned}
 
 pub or_false : (a b : Bool) → a || b ≡ false → (a ≡ false) × (b ≡ false)
 or_false true b h = (h, cc)

@@ -1,15 +1,11 @@
 -- Laws of places in a table: a place lies inside, is aligned, and two places outside unions share bytes only where
 -- one is in the other.
-use Rattle.std.proofs.Common.{◌≡◌, ◌∙◌, sym, ap, subst, refl, ℕ, zero, suc, ◌<◌, ◌≤◌, ◌+◌, ◌-◌, ◌*◌, ◌/◌, max, Bool, true, false, ◌||◌, ◌⊎◌, inl, inr, nat_lt, if◌then◌else◌, List, [], ◌∷◌, ◌++◌, length, Option, Some, None, slice_get, arith}
+use Rattle.std.proofs.Common.{◌≡◌, ap, subst, refl, ℕ, zero, suc, ◌<◌, ◌≤◌, ◌+◌, ◌*◌, Bool, true, false, nat_lt, if◌then◌else◌, List, [], ◌∷◌, length, Option, Some, None, slice_get, arith}
 use Rattle.std.proofs.Math.Nat.{mul-le-mul_left}
-use Rattle.std.proofs.lemmas.Bool.{cases_order}
 use Rattle.std.proofs.lemmas.Bool.Decides.{nat_tests}
-use Rattle.std.proofs.lemmas.Option.{slice_get_within}
 use Rattle.std.specs.Prelude.{Contains}
-use Rattle.std.specs.List.{list_any}
 use Rattle.std.specs.Option.{option_map}
 use Rattle.lu_spec.specs.Then.{then_option}
-use Rattle.lu_spec.specs.Prefix.{IsPrefix}
 use Rattle.lu_spec.proofs.ThenLemmas.{then_some}
 use Rattle.c_types.specs.declared.parts.IntKind.{IntKind}
 use Rattle.c_types.specs.declared.parts.IntKind.TheVariants.{Char, UChar, Short, UShort, Int as Int_kind, UInt, LongLong, ULongLong}
@@ -21,17 +17,17 @@ use Rattle.c_types.specs.declared.path.Step.{Step}
 use Rattle.c_types.specs.declared.path.Step.TheVariants.{Index, Field, Member}
 use Rattle.c_types.specs.Tables.{fields_of, members_of}
 use Rattle.c_types.specs.Chain.{field_types, held_in, held_by, is_settled}
-use Rattle.c_types.specs.Recursion.{at_type, by_fuel, depth}
+use Rattle.c_types.specs.Recursion.{at_type, by_fuel}
 use Rattle.c_types.specs.Layout.{shape, int_size, next_multiple, IsMultiple, Shapes, greatest_align, greatest_size, field_end, fields_end, members_start, union_align, shape_step, shape_of, size_of, align_of, field_offset, member_offset}
 use Rattle.c_types.specs.declared.path.Place.{Place}
-use Rattle.c_types.specs.Place.{place, shifted, step_place, path_place, object_place, is_member, IsOutsideUnions}
+use Rattle.c_types.specs.Place.{place, shifted, step_place, path_place}
 use Rattle.c_types.specs.Refusal.{IsBuilt}
-use Rattle.c_types.proofs.Alignment.{IsAlignment, IsAlignment-max, IsAlignment-low, four_bytes, IsMultiple-greater, IsMultiple-self, IsMultiple-zero, IsMultiple-times, IsMultiple-trans, IsMultiple-add, IsMultiple-next}
+use Rattle.c_types.proofs.Alignment.{IsAlignment, IsAlignment-low, IsMultiple-greater, IsMultiple-times, IsMultiple-trans, IsMultiple-next}
 use Rattle.c_types.proofs.Capped.{next_multiple-above, fuel-low}
 use Rattle.c_types.proofs.Shapes.{greatest_align-low}
-use Rattle.c_types.proofs.FieldLaws.{align-greatest, size-greatest, nth-aligned, end-above, fields_end-above, nth-above, nth-within, nth-before}
+use Rattle.c_types.proofs.FieldLaws.{align-greatest, size-greatest, nth-aligned, end-above, fields_end-above, nth-within}
 use Rattle.c_types.proofs.MarkLemmas.{held_known}
-use Rattle.c_types.proofs.Settled.{depth-falls, settled-edge}
+use Rattle.c_types.proofs.Settled.{settled-edge}
 use Rattle.c_types.proofs.ShapeLaws.{shape-sound, IsAlignment-greatest, settled, shape_of-is, struct-some, length-low}
 
 abbrev or_place : Option Place → Place

@@ -1,10 +1,9 @@
 -- Rounds over a table.
-use Rattle.std.proofs.Common.{◌≡◌, ◌∙◌, sym, ap, ℕ, zero, suc, ◌<◌, ◌≤◌, ◌+◌, ◌⊎◌, inl, inr, Bool, true, false, ◌||◌, List, [], ◌∷◌, ◌++◌, map, length, Option, Some, None, slice_get, unwrap_or, arith, refl}
+use Rattle.std.proofs.Common.{◌≡◌, ◌∙◌, sym, ap, ℕ, zero, suc, ◌≤◌, ◌⊎◌, inl, inr, Bool, ◌||◌, List, [], ◌∷◌, ◌++◌, arith, refl}
 use Rattle.std.specs.List.{list_any}
 use Rattle.c_types.specs.declared.shape.Shape.{Shape}
 use Rattle.c_types.specs.declared.parts.FieldDef.{FieldDef}
 use Rattle.c_types.specs.Chain.{field_types}
-use Rattle.c_types.specs.Layout.{shape}
 use Rattle.c_types.specs.Rounds.{shape_at, IsSmall, AreSmall}
 
 at_most : (a b : ℕ) → a ≤ suc b → (a ≡ suc b) ⊎ (a ≤ b)

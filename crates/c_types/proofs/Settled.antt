@@ -5,7 +5,7 @@ use Rattle.std.specs.Prelude.{Contains}
 use Rattle.std.specs.List.{IsDistinct, AllByRecursion, list_any, list_all}
 use Rattle.c_types.specs.declared.parts.Ty.{Ty}
 use Rattle.c_types.specs.declared.parts.Parts.{Parts}
-use Rattle.c_types.specs.Chain.{Edges, Chain, one, more, is_settled, held_in, held_by}
+use Rattle.c_types.specs.Chain.{Edges, Chain, one, more, is_settled, held_by}
 use Rattle.c_types.specs.Recursion.{at_type, by_fuel, by_type, rounds_unsettled, depth, IsLocal}
 use Rattle.c_types.proofs.Lists.{and_left, and_right}
 use Rattle.c_types.proofs.Numbered.{and_both}

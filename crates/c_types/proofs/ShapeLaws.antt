@@ -1,11 +1,8 @@
 -- Laws of sizes and alignments.
-use Rattle.std.proofs.Common.{◌≡◌, ◌∙◌, sym, ap, subst, refl, ℕ, zero, suc, ◌<◌, ◌≤◌, ◌+◌, ◌-◌, ◌*◌, ◌/◌, max, Bool, true, false, ◌&&◌, ◌||◌, ◌⊎◌, inl, inr, nat_lt, nat_le, List, [], ◌∷◌, ◌++◌, map, length, Option, Some, None, slice_get, arith}
-use Rattle.std.proofs.Math.Nat.{mul-le-mul_left}
+use Rattle.std.proofs.Common.{◌≡◌, ◌∙◌, sym, ap, subst, refl, ℕ, zero, suc, ◌<◌, ◌≤◌, ◌+◌, ◌*◌, max, Bool, true, false, ◌&&◌, ◌||◌, inl, nat_lt, nat_le, List, [], ◌∷◌, ◌++◌, map, length, Option, Some, None, slice_get, arith}
 use Rattle.std.proofs.lemmas.Bool.Decides.{nat_tests}
 use Rattle.std.proofs.lemmas.Option.{slice_get_within}
 use Rattle.std.specs.Prelude.{Contains, IsSomeAnd, not}
-use Rattle.std.specs.Option.{option_map}
-use Rattle.c_types.specs.declared.parts.IntKind.{IntKind}
 use Rattle.c_types.specs.declared.parts.IntKind.TheVariants.{Char, UChar, Short, UShort, Int as Int_kind, UInt, LongLong, ULongLong}
 use Rattle.c_types.specs.declared.parts.Ty.{Ty}
 use Rattle.c_types.specs.declared.parts.Ty.TheVariants.{Int, Pointer, VoidPointer, Function, Struct, Union, Array}
@@ -14,16 +11,14 @@ use Rattle.c_types.specs.declared.parts.FieldDef.{FieldDef}
 use Rattle.c_types.specs.declared.parts.Parts.{Parts}
 use Rattle.c_types.specs.declared.shape.Shape.{Shape}
 use Rattle.c_types.specs.Tables.{fields_in, fields_of, members_of}
-use Rattle.c_types.specs.Chain.{field_types, held_in, held_by, is_settled}
-use Rattle.c_types.specs.Recursion.{at_type, by_fuel, by_type, IsLocal}
-use Rattle.c_types.specs.Layout.{greatest, shape, next_multiple, int_size, IsMultiple, IsPointerSize, Shapes, greatest_align, greatest_size, field_start, field_end, fields_end, nth_start, struct_shape, members_start, union_align, union_shape, shape_step, shape_of, size_of, align_of}
+use Rattle.c_types.specs.Chain.{field_types, held_by, is_settled}
+use Rattle.c_types.specs.Recursion.{at_type, by_fuel, IsLocal}
+use Rattle.c_types.specs.Layout.{greatest, shape, next_multiple, IsMultiple, Shapes, greatest_align, greatest_size, field_end, fields_end, members_start, union_align, shape_step, shape_of, size_of}
 use Rattle.c_types.specs.Refusal.{Entry, type_entry, tag_entry, signature_entry, entries, HasNoField, has_bad_length, IsBuilt}
-use Rattle.c_types.proofs.Lists.{and_left, and_right}
 use Rattle.c_types.proofs.Numbered.{type_numbered}
-use Rattle.c_types.proofs.Alignment.{IsAlignment, one_byte, two_bytes, four_bytes, eight_bytes, IsAlignment-max, IsAlignment-low, IsMultiple-self, IsMultiple-zero, IsMultiple-times, IsMultiple-next}
-use Rattle.c_types.proofs.Capped.{next_multiple-above}
-use Rattle.c_types.proofs.MarkLemmas.{held_known, field-of}
-use Rattle.c_types.proofs.Settled.{settled_all, settled-edge, by_type-is}
+use Rattle.c_types.proofs.Alignment.{IsAlignment, one_byte, two_bytes, four_bytes, eight_bytes, IsAlignment-max, IsMultiple-self, IsMultiple-times, IsMultiple-next}
+use Rattle.c_types.proofs.MarkLemmas.{held_known}
+use Rattle.c_types.proofs.Settled.{settled_all, by_type-is}
 
 -- an alignment, and a size that is a multiple of it
 pub record IsSound (s : Shape) : Type 0 where
@@ -112,21 +107,21 @@ shape_step-local w p f g (Union u) same =
 shape_step-local w p f g (Array t n) same = ap (λ (s : Shape). shape (s.size * n) s.align) (same t (0, omega arith, refl))
 
 -- an entry among those before and after it
-get-after : {A : Type 0} (xs ys : List A) (k : ℕ) → slice_get (xs ++ ys) (length xs + k) ≡ slice_get ys k
+pub get-after : {A : Type 0} (xs ys : List A) (k : ℕ) → slice_get (xs ++ ys) (length xs + k) ≡ slice_get ys k
 get-after [] ys k = let z : 0 + k ≡ k = omega arith in ap (slice_get ys) z
 get-after (x ∷ xs) ys k = let z : suc (length xs) + k ≡ suc (length xs + k) = omega arith in ap (slice_get (x ∷ (xs ++ ys))) z ∙ get-after xs ys k
 
-get-before : {A : Type 0} (xs ys : List A) (k : ℕ) (x : A) → slice_get xs k ≡ Some x → slice_get (xs ++ ys) k ≡ Some x
+pub get-before : {A : Type 0} (xs ys : List A) (k : ℕ) (x : A) → slice_get xs k ≡ Some x → slice_get (xs ++ ys) k ≡ Some x
 get-before [] ys k x e = cc
 get-before (y ∷ xs) ys zero x e = e
 get-before (y ∷ xs) ys (suc k) x e = get-before xs ys k x e
 
-get-map : {A B : Type 0} (f : A → B) (xs : List A) (k : ℕ) (x : A) → slice_get xs k ≡ Some x → slice_get (map f xs) k ≡ Some (f x)
+pub get-map : {A B : Type 0} (f : A → B) (xs : List A) (k : ℕ) (x : A) → slice_get xs k ≡ Some x → slice_get (map f xs) k ≡ Some (f x)
 get-map f [] k x e = cc
 get-map f (y ∷ xs) zero x e = let q : y ≡ x = cc in ap (λ z. Some (f z)) q
 get-map f (y ∷ xs) (suc k) x e = get-map f xs k x e
 
-some_within : {A : Type 0} (xs : List A) (k : ℕ) → k < length xs → (x : A) × (slice_get xs k ≡ Some x)
+pub some_within : {A : Type 0} (xs : List A) (k : ℕ) → k < length xs → (x : A) × (slice_get xs k ≡ Some x)
 some_within [] k h = absurd (omega arith)
 some_within (x ∷ xs) zero h = (x, refl)
 some_within (x ∷ xs) (suc k) h = some_within xs k (omega arith)

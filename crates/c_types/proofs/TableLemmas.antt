@@ -1,20 +1,17 @@
 -- What a table keeps.
-use Rattle.std.proofs.Common.{◌≡◌, ◌∙◌, sym, ap, subst, refl, ℕ, zero, suc, ◌<◌, ◌≤◌, ◌+◌, ◌*◌, List, [], ◌∷◌, take, Option, Some, None, slice_get, inl, add_assoc, arith}
+use Rattle.std.proofs.Common.{◌≡◌, ◌∙◌, sym, ap, subst, refl, ℕ, zero, suc, ◌≤◌, ◌+◌, List, [], ◌∷◌, take, Option, Some, None, slice_get, add_assoc, arith}
 use mathlib.Core.Path.{fun_ext}
 use Rattle.c_types.specs.declared.parts.FieldDef.{FieldDef}
 use Rattle.c_types.specs.declared.parts.Parts.{Parts}
-use Rattle.c_types.specs.declared.parts.Ty.TheVariants.{Struct, Array}
 use Rattle.c_types.specs.declared.path.Place.{Place}
 use Rattle.c_types.specs.declared.path.Step.{Step}
-use Rattle.c_types.specs.declared.path.Step.TheVariants.{Field, Index}
 use Rattle.c_types.specs.declared.shape.Shape.{Shape}
-use Rattle.c_types.specs.Layout.{greatest, Shapes, field_start, field_end, fields_end, nth_start, shape_of, size_of, align_of}
+use Rattle.c_types.specs.Layout.{greatest, Shapes, field_start, field_end, fields_end, nth_start, shape_of, size_of}
 use Rattle.c_types.specs.Rounds.{shape_at, IsSmall, AreSmall}
 use Rattle.lu_spec.specs.Then.{then_option}
 use Rattle.c_types.specs.Place.{place, shifted, step_place, path_place}
-use Rattle.c_types.specs.Refusal.{IsBuilt}
 use Rattle.c_types.specs.Kept.{IsKept}
-use Rattle.c_types.proofs.Alignment.{IsAlignment, four_bytes, IsAlignment-low, IsAlignment-high}
+use Rattle.c_types.proofs.Alignment.{four_bytes, IsAlignment-low, IsAlignment-high}
 use Rattle.c_types.proofs.KeptLemmas.{size-small}
 use Rattle.c_types.proofs.PlaceLaws.{step-within}
 use Rattle.c_types.proofs.ShapeLaws.{shape-sound}

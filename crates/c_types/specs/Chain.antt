@@ -1,8 +1,8 @@
 -- Chains along edges between numbers, and which types hold or point to which.
-use Rattle.std.specs.Prelude.{◌≡◌, ◌⊎◌, ℕ, zero, suc, ◌<◌, Bool, true, false, List, [], ◌∷◌, map, Contains, Option, Some, None, slice_get}
+use Rattle.std.specs.Prelude.{◌⊎◌, ℕ, zero, suc, Bool, false, List, [], ◌∷◌, map, Contains, Option, Some, slice_get}
 use Rattle.std.specs.List.{list_all}
 use Rattle.c_types.specs.declared.parts.Ty.{Ty}
-use Rattle.c_types.specs.declared.parts.Ty.TheVariants.{Int, Pointer, VoidPointer, Function, Struct, Union, Array}
+use Rattle.c_types.specs.declared.parts.Ty.TheVariants.{Pointer, Struct, Union, Array}
 use Rattle.c_types.specs.declared.parts.FieldDef.{FieldDef}
 use Rattle.c_types.specs.declared.parts.Parts.{Parts}
 use Rattle.c_types.specs.Tables.{fields_of, members_of}

@@ -1,5 +1,5 @@
 -- Size, alignment and offsets, all in bytes, by recursion on types. `w` is the size of a pointer.
-use Rattle.std.specs.Prelude.{◌≡◌, ◌⊎◌, ℕ, zero, suc, ◌+◌, ◌-◌, ◌*◌, ◌/◌, ◌^◌, max, List, [], ◌∷◌, Option, Some, None}
+use Rattle.std.specs.Prelude.{◌≡◌, ◌⊎◌, ℕ, zero, suc, ◌+◌, ◌-◌, ◌*◌, ◌/◌, ◌^◌, max, List, [], ◌∷◌}
 use Rattle.c_types.specs.declared.parts.IntKind.{IntKind}
 use Rattle.c_types.specs.declared.parts.IntKind.TheVariants.{Char, UChar, Short, UShort, Int as Int_kind, UInt, LongLong, ULongLong}
 use Rattle.c_types.specs.declared.parts.Ty.{Ty}

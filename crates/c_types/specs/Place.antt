@@ -4,8 +4,7 @@ use Rattle.std.specs.List.{list_any}
 use Rattle.std.specs.Option.{option_map, option_map_or}
 use Rattle.lu_spec.specs.Then.{then_option}
 use Rattle.c_types.specs.declared.parts.Ty.{Ty}
-use Rattle.c_types.specs.declared.parts.Ty.TheVariants.{Int, Pointer, VoidPointer, Function, Struct, Union, Array}
-use Rattle.c_types.specs.declared.parts.FieldDef.{FieldDef}
+use Rattle.c_types.specs.declared.parts.Ty.TheVariants.{Struct, Union, Array}
 use Rattle.c_types.specs.declared.parts.Parts.{Parts}
 use Rattle.c_types.specs.declared.path.Place.{Place}
 use Rattle.c_types.specs.declared.path.Step.{Step}

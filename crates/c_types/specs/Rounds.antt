@@ -1,5 +1,5 @@
 -- Marks and shapes of all types, by rounds over the whole table.
-use Rattle.std.specs.Prelude.{◌≡◌, ℕ, zero, suc, ◌+◌, ◌^◌, ◌≤◌, min, Bool, true, false, ◌||◌, nat_eq, List, [], ◌∷◌, map, replicate, length, Option, Some, None, unwrap_or, slice_get}
+use Rattle.std.specs.Prelude.{ℕ, zero, suc, ◌+◌, ◌≤◌, min, Bool, false, ◌||◌, nat_eq, List, map, replicate, length, Option, Some, None, unwrap_or, slice_get}
 use Rattle.std.specs.List.{list_any}
 use Rattle.c_types.specs.declared.parts.Ty.{Ty}
 use Rattle.c_types.specs.declared.parts.Parts.{Parts}

@@ -1,12 +1,14 @@
 // What stands twice in a table, and what has no field.
 
-ghost use Rattle.std.specs.Prelude.{◌≡◌, ◌⊎◌, ℕ, ◌+◌, ◌<◌, ◌≤◌, ◌^◌, [], length, MatchBool, MatchOption, IsTrue, slice_get};
+ghost use Rattle.std.specs.Prelude.{◌≡◌, ◌⊎◌, ℕ, ◌+◌, ◌<◌, ◌≤◌, ◌^◌, [], length, IfOk, MatchBool, MatchOption, IsTrue, IsSomeAnd, slice_get};
 ghost use Rattle.std.specs.Option.{option_map};
 ghost use Rattle.c_types.specs.Numbering.{are_countable};
 ghost use Rattle.c_types.specs.Refusal.{entries, Clashes, HasNameBefore, NamesTwice, HasNameTwice, ClashesBefore, IsDuplicate, HasNoField, IsEmpty, IsLeast, NoneIs};
-ghost use Rattle.c_types.specs.Entries.{entry_of};
+ghost use Rattle.c_types.specs.Entries.{entry_of, IsRepeated};
 
 use crate::parts::{FieldDef, Parts, Signature, TagDef, Ty};
+use std::alloc::{AllocError, Global};
+use std::collections::HashSet;
 
 /// An entry of types, structs, unions and signatures as one list.
 #[derive(Clone, Copy)]
@@ -77,10 +79,22 @@ fn clashes(a: Entry, b: Entry) -> bool
     }
 }
 
+/// The entries before this number clash with no entry of this kind.
+fn first_rival(parts: &Parts, here: Entry) -> u64
+    ensures { (k : ℕ) → k < result → IsSomeAnd (slice_get (entries parts.now) k) (λ d. Clashes d (entry_of here.entry)) → ⊥ }
+{
+    let types = parts.types.as_slice().len() as u64;
+    match here {
+        Entry::Type(_) => 0,
+        Entry::Tag(_) => types,
+        Entry::Signature(_) => types,
+    }
+}
+
 fn clashes_before(parts: &Parts, number: u64, here: Entry) -> bool
     ensures { MatchBool result (ClashesBefore (entries parts.now) number (entry_of here.entry)) (ClashesBefore (entries parts.now) number (entry_of here.entry) → ⊥) }
 {
-    for m in 0..number {
+    for m in first_rival(parts, here)..number {
         if let Some(earlier) = entry_at(parts, m) {
             if clashes(earlier, here) {
                 return true;
@@ -150,18 +164,35 @@ fn is_empty(parts: &Parts, number: u64) -> bool
     }
 }
 
-/// The first entry that is a type or signature equal to an earlier one, or a struct or union that has the tag of
-/// an earlier one or a field name twice.
-pub fn first_duplicate(parts: &Parts) -> Option<u64>
-    requires { IsTrue (are_countable parts.now) }
-    ensures { MatchOption result (NoneIs (IsDuplicate parts.now)) (IsLeast (IsDuplicate parts.now)) }
+/// The first type that equals an earlier one.
+fn first_repeated(alloc: Global, types: &[Ty]) -> Result<Option<usize>, AllocError>
+    ensures { IfOk result (λ first. MatchOption first (NoneIs (IsRepeated types.now)) (IsLeast (IsRepeated types.now))) }
 {
-    for number in 0..entry_count(parts) {
-        if is_duplicate(parts, number) {
-            return Some(number);
+    let mut seen = HashSet::new(alloc);
+    for (number, ty) in types.iter().enumerate() {
+        if !seen.insert(*ty)? {
+            return Ok(Some(number));
         }
     }
-    None
+    Ok(None)
+}
+
+/// The first entry that is a type or signature equal to an earlier one, or a struct or union that has the tag of
+/// an earlier one or a field name twice.
+pub fn first_duplicate(alloc: Global, parts: &Parts) -> Result<Option<u64>, AllocError>
+    requires { IsTrue (are_countable parts.now) }
+    ensures { IfOk result (λ first. MatchOption first (NoneIs (IsDuplicate parts.now)) (IsLeast (IsDuplicate parts.now))) }
+{
+    let types = parts.types.as_slice();
+    if let Some(number) = first_repeated(alloc, types)? {
+        return Ok(Some(number as u64));
+    }
+    for number in types.len() as u64..entry_count(parts) {
+        if is_duplicate(parts, number) {
+            return Ok(Some(number));
+        }
+    }
+    Ok(None)
 }
 
 /// The first entry that is a struct or union with no field.

@@ -1,15 +1,28 @@
-//! Types of C that name each other by number, their layout, and the places of an object.
+//! Types of C that name each other by number: their sizes, alignments and offsets in bytes, and the places of an
+//! object. A table is built of `Parts` that are `well_numbered`; `specs/` has the definitions that its contracts
+//! cite, and `proofs/` laws about them.
 #![tactic(auto)]
 
-pub mod cycles;
-pub mod descent;
-pub mod duplicates;
-pub mod errors;
-pub mod numbering;
-pub mod parts;
-pub mod path;
-pub mod places;
-pub mod rounds;
-pub mod sequence;
-pub mod shape;
-pub mod table;
+mod cycles;
+mod descent;
+mod duplicates;
+mod errors;
+mod numbering;
+mod parts;
+mod path;
+mod places;
+mod rounds;
+mod sequence;
+mod shape;
+mod table;
+
+pub use errors::{BuildError, Memory};
+pub use numbering::well_numbered;
+pub use parts::{FieldDef, IntKind, POINTER_SIZE, Parts, Signature, TagDef, Ty, TyId};
+pub use path::{Path, Place, Step};
+pub use sequence::Sequence;
+pub use shape::{GREATEST, Shape};
+pub use table::TypeTable;
+
+#[cfg(test)]
+mod tests;

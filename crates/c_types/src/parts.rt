@@ -11,7 +11,7 @@ pub type TyId = u32;
 pub const POINTER_SIZE: u32 = 4;
 
 /// The integer types. All are two's complement, and `Char` is signed.
-#[derive(Clone, Copy, Debug, PartialEq, Eq)]
+#[derive(Clone, Copy, Debug, PartialEq, Eq, Hash)]
 pub enum IntKind {
     Char,
     UChar,
@@ -24,7 +24,7 @@ pub enum IntKind {
 }
 
 /// A type. Other types, signatures, structs and unions are named by their numbers.
-#[derive(Clone, Copy, Debug, PartialEq, Eq)]
+#[derive(Clone, Copy, Debug, PartialEq, Eq, Hash)]
 pub enum Ty {
     Int(IntKind),
     Pointer(TyId),

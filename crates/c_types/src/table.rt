@@ -78,7 +78,7 @@ impl TypeTable {
         ensures built { OnOk result (IsBuilt POINTER_SIZE parts) }
         ensures refused { IfErr result (Refuses POINTER_SIZE parts) }
     {
-        if let Some(number) = first_duplicate(&parts) {
+        if let Some(number) = first_duplicate(alloc, &parts)? {
             return Err(BuildError::Duplicate(number));
         }
         if let Some(number) = first_empty(&parts) {

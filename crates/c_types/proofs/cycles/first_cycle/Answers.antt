@@ -1,5 +1,4 @@
-use Rattle.std.proofs.Common.{◌≡◌, ◌∙◌, sym, ap, ℕ, ◌<◌, length, arith, inl, inr, ◌⊎◌}
-use Rattle.c_types.specs.Chain.{IsCyclic}
+use Rattle.std.proofs.Common.{◌∙◌, sym, ap, ◌<◌, length, arith}
 use Rattle.c_types.specs.Rounds.{mark_at}
 use Rattle.c_types.proofs.MarkLemmas.{unmarked-none}
 use Rattle.c_types.proofs.Acyclic.{IsCyclic-within}

@@ -1,6 +1,5 @@
-use Rattle.std.proofs.Common.{◌≡◌, Bool, true, false, slice_get, subst, Option}
+use Rattle.std.proofs.Common.{Bool, true, false, slice_get, subst}
 use Rattle.std.specs.Prelude.{MatchBool}
-use Rattle.c_types.specs.declared.parts.Ty.{Ty}
 use Rattle.c_types.specs.Chain.{Chain, pointed_by, IsPointer}
 use Rattle.c_types.proofs.MarkLemmas.{points_decided}
 use Rattle.c_types.proofs.cycles.points_to_itself.Goals as goal

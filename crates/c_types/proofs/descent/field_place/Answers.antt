@@ -1,9 +1,9 @@
-use Rattle.std.proofs.Common.{◌≡◌, ◌∙◌, ◌<◌, ap, sym, refl, Some, slice_get, length, arith}
+use Rattle.std.proofs.Common.{◌≡◌, ◌∙◌, ap, sym, Some, slice_get, length, arith}
 use Rattle.std.specs.Option.{option_map}
 use Rattle.c_types.specs.declared.parts.Ty.TheVariants.{Struct}
 use Rattle.c_types.specs.declared.path.Step.TheVariants.{Field}
 use Rattle.c_types.specs.Tables.{fields_of}
-use Rattle.c_types.specs.Layout.{nth_start, field_offset, shape_of}
+use Rattle.c_types.specs.Layout.{nth_start, field_offset}
 use Rattle.c_types.specs.Rounds.{shape_at}
 use Rattle.c_types.specs.Place.{place, step_place}
 use Rattle.c_types.proofs.Numbered.{fields_few}

@@ -1,4 +1,4 @@
-use Rattle.std.proofs.Common.{◌≡◌, ◌∙◌, ap, sym, refl, Some, slice_get}
+use Rattle.std.proofs.Common.{◌≡◌, ◌∙◌, ap, sym, Some, slice_get}
 use Rattle.std.specs.Option.{option_map}
 use Rattle.c_types.specs.declared.parts.Ty.TheVariants.{Union}
 use Rattle.c_types.specs.declared.path.Step.TheVariants.{Member}

@@ -1,4 +1,4 @@
-use Rattle.std.proofs.Common.{◌≡◌, ◌∙◌, sym, Some, slice_get, refl, arith}
+use Rattle.std.proofs.Common.{◌≡◌, sym, Some, slice_get, refl, arith}
 use Rattle.c_types.specs.Place.{step_place}
 use Rattle.c_types.proofs.Alignment.{four_bytes}
 use Rattle.c_types.proofs.PlaceLaws.{step-within}

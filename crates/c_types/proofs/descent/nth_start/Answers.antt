@@ -1,4 +1,4 @@
-use Rattle.std.proofs.Common.{◌≡◌, ◌∙◌, sym, ap, take}
+use Rattle.std.proofs.Common.{◌∙◌, sym, ap, take}
 use Rattle.c_types.specs.Layout.{next_multiple, fields_end}
 use Rattle.c_types.specs.Rounds.{shape_at}
 use Rattle.c_types.proofs.TableLemmas.{nth_start-take}

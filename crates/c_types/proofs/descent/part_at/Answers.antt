@@ -1,6 +1,5 @@
-use Rattle.std.proofs.Common.{◌≡◌, ◌∙◌, ◌<◌, ap, sym, refl, Some, slice_get, length, arith}
+use Rattle.std.proofs.Common.{◌≡◌, ◌∙◌, ap, Some, slice_get, length, arith}
 use Rattle.c_types.specs.declared.parts.Ty.TheVariants.{Array}
-use Rattle.c_types.specs.Layout.{size_of}
 use Rattle.c_types.proofs.Alignment.{four_bytes}
 use Rattle.c_types.proofs.Numbered.{fields_few, element_known}
 use Rattle.c_types.proofs.PlaceLaws.{size-low}

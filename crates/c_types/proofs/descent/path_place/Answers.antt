@@ -1,4 +1,4 @@
-use Rattle.std.proofs.Common.{◌≡◌, ◌∙◌, ap, sym, ◌+◌, drop, get_or}
+use Rattle.std.proofs.Common.{◌∙◌, ap, sym, ◌+◌, drop, get_or}
 use Rattle.std.proofs.lemmas.List.{drop_more}
 use Rattle.lu_spec.specs.Then.{then_option}
 use Rattle.c_types.specs.declared.path.Step.TheVariants.{Index}

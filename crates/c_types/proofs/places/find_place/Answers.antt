@@ -1,6 +1,6 @@
-use Rattle.std.proofs.Common.{◌≡◌, ◌<◌, ◌∙◌, ◌++◌, ◌-◌, ◌+◌, ◌∷◌, [], ap, sym, length, Some, None, true, false, arith}
+use Rattle.std.proofs.Common.{◌<◌, ◌∙◌, ◌++◌, ◌-◌, ◌+◌, ap, sym, length, Some, None, arith}
 use Rattle.std.specs.Option.{option_map}
-use Rattle.c_types.specs.Descent.{is_here, descend}
+use Rattle.c_types.specs.Descent.{descend}
 use Rattle.c_types.proofs.Descending.{descend-here, descend-on, map-append, some-nil}
 use Rattle.c_types.proofs.places.find_place.Goals as goal
 

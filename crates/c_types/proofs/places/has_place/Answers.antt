@@ -1,6 +1,6 @@
-use Rattle.std.proofs.Common.{◌≡◌, ◌<◌, ◌∙◌, ◌-◌, ◌+◌, ap, sym, length, Some, None, true, false, arith}
+use Rattle.std.proofs.Common.{◌<◌, ◌∙◌, ◌-◌, ◌+◌, ap, sym, length, Some, None, arith}
 use Rattle.std.specs.Prelude.{is_some}
-use Rattle.c_types.specs.Descent.{is_here, descend}
+use Rattle.c_types.specs.Descent.{descend}
 use Rattle.c_types.proofs.Descending.{descend-here, descend-on, some-map}
 use Rattle.c_types.proofs.places.has_place.Goals as goal
 

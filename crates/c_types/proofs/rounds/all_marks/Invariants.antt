@@ -1,4 +1,4 @@
-use Rattle.std.proofs.Common.{◌≡◌, ◌≤◌, length}
+use Rattle.std.proofs.Common.{◌≡◌}
 use Rattle.c_types.specs.Rounds.{mark_rounds}
 use Rattle.c_types.proofs.rounds.all_marks.Given as goal
 

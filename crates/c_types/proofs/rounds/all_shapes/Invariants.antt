@@ -1,4 +1,4 @@
-use Rattle.std.proofs.Common.{◌≡◌, ◌≤◌, length}
+use Rattle.std.proofs.Common.{◌≡◌}
 use Rattle.c_types.specs.Rounds.{shape_at, shape_rounds, AreSmall}
 use Rattle.c_types.proofs.rounds.all_shapes.Given as goal
 

@@ -1,6 +1,5 @@
-use Rattle.std.proofs.Common.{◌≡◌, ◌∙◌, sym, ap, Some}
+use Rattle.std.proofs.Common.{◌∙◌, sym, ap}
 use Rattle.std.specs.List.{list_any}
-use Rattle.c_types.specs.declared.parts.Ty.TheVariants.{Struct, Union}
 use Rattle.c_types.specs.Tables.{fields_of, members_of}
 use Rattle.c_types.specs.Rounds.{is_marked, round_mark}
 use Rattle.c_types.proofs.RoundLemmas.{list_any-map}

@@ -1,6 +1,4 @@
-use Rattle.std.proofs.Common.{◌≡◌, ◌≤◌, ℕ, List, [], ◌∷◌, max, sym, arith, lit≤}
-use Rattle.c_types.specs.declared.parts.FieldDef.{FieldDef}
-use Rattle.c_types.specs.Layout.{Shapes, greatest_align}
+use Rattle.std.proofs.Common.{arith, lit≤}
 use Rattle.c_types.specs.Rounds.{shape_at}
 use Rattle.c_types.proofs.Shapes.{greatest_align-low}
 use Rattle.c_types.proofs.shape.greatest_align.Goals as goal

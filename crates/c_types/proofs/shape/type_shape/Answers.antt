@@ -1,5 +1,4 @@
-use Rattle.std.proofs.Common.{arith, ◌<◌, ◌^◌, ◌-◌, length}
-use Rattle.c_types.specs.Tables.{fields_of}
+use Rattle.std.proofs.Common.{arith}
 use Rattle.c_types.proofs.Numbered.{fields_few}
 use Rattle.c_types.proofs.shape.type_shape.Goals as goal
 

@@ -1,9 +1,9 @@
-use Rattle.std.proofs.Common.{◌≡◌, ◌∙◌, sym, ap, subst, lit≤, length}
+use Rattle.std.proofs.Common.{◌∙◌, ap, subst, lit≤, length}
 use Rattle.std.specs.Prelude.{MatchOption}
 use Rattle.c_types.specs.Chain.{IsCyclic}
-use Rattle.c_types.specs.Refusal.{NoneIs, IsLeast}
+use Rattle.c_types.specs.Refusal.{NoneIs, IsLeast, IsDuplicate}
 use Rattle.c_types.specs.Rounds.{shape_at}
-use Rattle.c_types.specs.Kept.{AreCapped, IsKept}
+use Rattle.c_types.specs.Kept.{AreCapped}
 use Rattle.c_types.proofs.Capped.{rounds-capped}
 use Rattle.c_types.proofs.KeptLemmas.{shapes-exact}
 use Rattle.c_types.proofs.table.TypeTable.build.Goals as goal
@@ -22,9 +22,9 @@ invariant_of-result c =
     record {
       built = record {
         numbered = c.requires;
-        distinct = c.in_default.ensures;
+        distinct = subst (λ o. MatchOption o (NoneIs (IsDuplicate p)) (IsLeast (IsDuplicate p))) c.in_default.is c.in_ok-number.ensures;
         full = c.in_default-first_empty.ensures;
-        acyclic = subst (λ o. MatchOption o (NoneIs (IsCyclic p)) (IsLeast (IsCyclic p))) c.in_default-2.is c.in_ok-number.ensures;
+        acyclic = subst (λ o. MatchOption o (NoneIs (IsCyclic p)) (IsLeast (IsCyclic p))) c.in_default-2.is c.in_ok-number-2.ensures;
         small = c.in_default-first_too_big.ensures;
       };
       each = shapes-exact 4 p c.in_ok-shapes.shapes.items c.in_default-first_too_big.ensures capped;
