@@ -31,7 +31,7 @@ pub enum Init {
 pub enum Decl {
     /// `struct name { fields } ;` or the same with `union`
     Record(TagKind, Name, Items<Named>),
-    Global(Named, Option<Init>),
+    Global(Named, Option<Boxed<Init>>),
     Prototype(TypeName, Name, Items<Param>),
     Function(TypeName, Name, Items<Param>, Items<Stmt>),
 }

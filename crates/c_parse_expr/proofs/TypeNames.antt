@@ -25,12 +25,6 @@ use Rattle.c_parse_expr.proofs.Sorts.{mark_kind, keyword_kind, expect_exact, exp
 
 -- ---- unsigned types
 
-unsigned_from : (x : Keyword) (a : UnsignedType) → pick_unsigned (token.Keyword x) ≡ Some a → (a ≢ u.Plain) × (a ≢ u.LongLong) × ((n : ℕ) → unsigned_cells a (suc n) ≡ (token.Keyword x, false) ∷ [])
-unsigned_from k.Char a e = let is : u.Char ≡ a = cc in (λ f. cc, λ f. cc, λ n. subst (λ a. unsigned_cells a (suc n) ≡ (token.Keyword k.Char, false) ∷ []) is refl)
-unsigned_from k.Short a e = let is : u.Short ≡ a = cc in (λ f. cc, λ f. cc, λ n. subst (λ a. unsigned_cells a (suc n) ≡ (token.Keyword k.Short, false) ∷ []) is refl)
-unsigned_from k.Int a e = let is : u.Int ≡ a = cc in (λ f. cc, λ f. cc, λ n. subst (λ a. unsigned_cells a (suc n) ≡ (token.Keyword k.Int, false) ∷ []) is refl)
-unsigned_from _ a e = cc
-
 abbrev IsNarrow : UnsignedType → Type 0
 IsNarrow u.Char = Unit {0}
 IsNarrow u.Short = Unit {0}
@@ -207,14 +201,14 @@ base_sorted (base.Unsigned w) rest = refl
 base_sorted (base.Tagged tag.Struct x) rest = refl
 base_sorted (base.Tagged tag.Union x) rest = refl
 
-abbrev IsSingle : BaseType → Type 0
+abbrev pub IsSingle : BaseType → Type 0
 IsSingle base.Void = Unit {0}
 IsSingle base.Char = Unit {0}
 IsSingle base.Short = Unit {0}
 IsSingle base.Int = Unit {0}
 IsSingle _ = ⊥
 
-tag_from : (t : Token) (a : TagKind) → pick_tag t ≡ Some a → Unit {0} × (t ≡ token.Keyword (tag_keyword a))
+pub tag_from : (t : Token) (a : TagKind) → pick_tag t ≡ Some a → Unit {0} × (t ≡ token.Keyword (tag_keyword a))
 tag_from (token.Keyword x) a e = at x a e
   where
     at : (x : Keyword) (a : TagKind) → pick_tag (token.Keyword x) ≡ Some a → Unit {0} × (token.Keyword x ≡ token.Keyword (tag_keyword a))
@@ -238,8 +232,24 @@ tag_kind = one_kind (λ a. Unit {0}) (λ a. token.Keyword (tag_keyword a))
 pub tag_exact : (ts : List Token) → Exact tag_kind ts (one pick_tag ts)
 tag_exact ts = one_exact (λ a. Unit {0}) (λ a. token.Keyword (tag_keyword a)) pick_tag (λ a w. tag_picked a) tag_from ts
 
+base_at : (x : Keyword) (a : BaseType) → pick_base (token.Keyword x) ≡ Some a → IsSingle a × (token.Keyword x ≡ base_lead a)
+base_at k.Void a e = let is : base.Void ≡ a = cc in subst (λ a. IsSingle a × (token.Keyword k.Void ≡ base_lead a)) is (tt, refl)
+base_at k.Char a e = let is : base.Char ≡ a = cc in subst (λ a. IsSingle a × (token.Keyword k.Char ≡ base_lead a)) is (tt, refl)
+base_at k.Short a e = let is : base.Short ≡ a = cc in subst (λ a. IsSingle a × (token.Keyword k.Short ≡ base_lead a)) is (tt, refl)
+base_at k.Int a e = let is : base.Int ≡ a = cc in subst (λ a. IsSingle a × (token.Keyword k.Int ≡ base_lead a)) is (tt, refl)
+base_at _ a e = cc
+
+pub base_from : (t : Token) (a : BaseType) → pick_base t ≡ Some a → IsSingle a × (t ≡ base_lead a)
+base_from (token.Keyword x) a e = base_at x a e
+base_from (token.Identifier x) a e = cc
+base_from (token.Mark x) a e = cc
+base_from (token.Reserved x) a e = cc
+base_from (token.Number x) a e = cc
+base_from (token.Character x) a e = cc
+base_from (token.Text x) a e = cc
+
 single_exact : (ts : List Token) → Exact (one_kind IsSingle base_lead) ts (one pick_base ts)
-single_exact ts = one_exact IsSingle base_lead pick_base picked from ts
+single_exact ts = one_exact IsSingle base_lead pick_base picked base_from ts
   where
     picked : (b : BaseType) → IsSingle b → pick_base (base_lead b) ≡ Some b
     picked base.Void w = refl
@@ -249,22 +259,6 @@ single_exact ts = one_exact IsSingle base_lead pick_base picked from ts
     picked base.LongLong w = absurd w
     picked (base.Unsigned a) w = absurd w
     picked (base.Tagged t x) w = absurd w
-
-    at : (x : Keyword) (a : BaseType) → pick_base (token.Keyword x) ≡ Some a → IsSingle a × (token.Keyword x ≡ base_lead a)
-    at k.Void a e = let is : base.Void ≡ a = cc in subst (λ a. IsSingle a × (token.Keyword k.Void ≡ base_lead a)) is (tt, refl)
-    at k.Char a e = let is : base.Char ≡ a = cc in subst (λ a. IsSingle a × (token.Keyword k.Char ≡ base_lead a)) is (tt, refl)
-    at k.Short a e = let is : base.Short ≡ a = cc in subst (λ a. IsSingle a × (token.Keyword k.Short ≡ base_lead a)) is (tt, refl)
-    at k.Int a e = let is : base.Int ≡ a = cc in subst (λ a. IsSingle a × (token.Keyword k.Int ≡ base_lead a)) is (tt, refl)
-    at _ a e = cc
-
-    from : (t : Token) (a : BaseType) → pick_base t ≡ Some a → IsSingle a × (t ≡ base_lead a)
-    from (token.Keyword x) a e = at x a e
-    from (token.Identifier x) a e = cc
-    from (token.Mark x) a e = cc
-    from (token.Reserved x) a e = cc
-    from (token.Number x) a e = cc
-    from (token.Character x) a e = cc
-    from (token.Text x) a e = cc
 
 -- a plain `unsigned` goes on as far as it can
 abbrev pub base_stops : BaseType → List Token → Type 0

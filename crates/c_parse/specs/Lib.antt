@@ -1,0 +1,4 @@
+pub mod Parameters
+pub mod Statements
+pub mod Declarations
+pub mod Views

@@ -1,0 +1,10 @@
+//! Reads a program's declarations from tokens.
+#![tactic(auto)]
+
+mod decl;
+mod init;
+mod object;
+mod param;
+mod parts;
+mod program;
+mod stmt;
