@@ -96,13 +96,13 @@ type_before : (n : ℕ) (t : TypeName) (ts : List Token) → Heads (token.Mark m
 unfolding same_mark same_keyword
 type_before n t ts h = type_ends n t ts (at_head (sees m.Star) (token.Mark m.RightParen) ts h false (λ rest. refl)) (at_head Reading.more_unsigned (token.Mark m.RightParen) ts h false (λ rest. refl))
 
-zero_number : Number
+pub zero_number : Number
 zero_number = record { value = 0; kind = kind_of_number.Int }
 
-int_type : TypeName
+pub int_type : TypeName
 int_type = record { base = base.Int; stars = 0 }
 
-some_expression : (n room : ℕ) → (t : Expression) × (kind n room).well t
+pub some_expression : (n room : ℕ) → (t : Expression) × (kind n room).well t
 some_expression n room = (Num zero_number, (tt, omega arith))
 
 -- ---- what stands between a postfix and a name
