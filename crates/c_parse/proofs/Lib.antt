@@ -1,3 +1,4 @@
 pub mod Turns
 pub mod Params
 pub mod Rights
+pub mod Stmts

@@ -53,6 +53,9 @@ postfix_rank e h = grind (arith, nat_tests)
 pub rank_postfix : (e : Expression) → rank e < 1 → is_postfix e ≡ true
 rank_postfix e h = grind (arith, nat_tests)
 
+abbrev pub statement_kind : ℕ → Kind Statement
+statement_kind room = record { well = IsStatement; cells = λ s. statement_cells s room; stops = λ s rest. is_open s ≡ true → sees_keyword k.Else rest ≡ false }
+
 -- in a statement whose expressions have this room
 module _ (n : ℕ) (inner : Reader Expression) (inners : (ts : List Token) → Exact (kind 12 n) ts (inner ts)) where
   -- ---- calls
@@ -258,9 +261,6 @@ module _ (n : ℕ) (inner : Reader Expression) (inners : (ts : List Token) → E
 
   -- ---- statements
 
-  abbrev pub statement_kind : ℕ → Kind Statement
-  statement_kind room = record { well = IsStatement; cells = λ s. statement_cells s room; stops = λ s rest. is_open s ≡ true → sees_keyword k.Else rest ≡ false }
-
   pub local_exact : (params : Reader Parameters) (readers : (ts : List Token) → Exact (params_kind n) ts (params ts)) (ts : List Token)
       → ((s : Statement) → IsStatement s → Opens (statement_cells s (suc n)) ts → (p : Parameter × (Option Right × Unit {0})) × (Local p.0 p.1.0 ≡ s) × IsRightIfAny p.1.0)
       → Exact (statement_kind (suc n)) ts (local params inner ts)
@@ -285,7 +285,7 @@ module _ (n : ℕ) (inner : Reader Expression) (inners : (ts : List Token) → E
 
     -- ---- what follows a place or a callee
 
-    abbrev tail_well : Expression → Tail → Type 0
+    abbrev pub tail_well : Expression → Tail → Type 0
     tail_well e (Assigned r) = IsRight r
     tail_well e (Called es) = (rank e < 1) × AreExpressions es
 
