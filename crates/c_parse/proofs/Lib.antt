@@ -2,3 +2,5 @@ pub mod Turns
 pub mod Params
 pub mod Rights
 pub mod Stmts
+pub mod Lists
+pub mod Inits
