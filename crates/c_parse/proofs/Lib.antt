@@ -4,3 +4,5 @@ pub mod Rights
 pub mod Stmts
 pub mod Lists
 pub mod Inits
+pub mod Objects
+pub mod Decls
