@@ -6,3 +6,4 @@ pub mod Lists
 pub mod Inits
 pub mod Objects
 pub mod Decls
+pub mod Programs

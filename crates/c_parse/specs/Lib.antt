@@ -2,3 +2,4 @@ pub mod Parameters
 pub mod Statements
 pub mod Declarations
 pub mod Views
+pub mod Answers

@@ -6,5 +6,9 @@ mod init;
 mod object;
 mod param;
 mod parts;
-mod program;
+pub mod program;
 mod stmt;
+
+pub use c_parse_expr::error::ParseError;
+pub use c_parse_expr::whole::parse_expr;
+pub use program::parse;
