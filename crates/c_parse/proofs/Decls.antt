@@ -1,5 +1,5 @@
 -- Reading a declaration is exact.
-use Rattle.std.proofs.Common.{◌≡◌, ◌≢◌, ◌∙◌, refl, sym, ap, subst, ℕ, zero, suc, ◌<◌, Bool, true, false, List, [], ◌∷◌, ◌++◌, length, append_assoc, Option, Some, None, Ok, Err, cond, arith}
+use Rattle.std.proofs.Common.{◌≡◌, ◌∙◌, refl, sym, ap, ℕ, zero, suc, Bool, true, false, List, [], ◌∷◌, ◌++◌, append_assoc, Option, Some, None}
 use Rattle.std.specs.Prelude.{◌&&◌}
 use Rattle.c_ast.specs.declared.token.Token.{Token}
 use Rattle.c_ast.specs.declared.token.Token.TheVariants as token
@@ -10,22 +10,21 @@ use Rattle.c_ast.specs.declared.types.UnsignedType.TheVariants as u
 use Rattle.c_ast.specs.declared.types.BaseType.{BaseType}
 use Rattle.c_ast.specs.declared.types.BaseType.TheVariants as base
 use Rattle.c_ast.specs.declared.types.TypeName.{TypeName}
-use Rattle.c_ast.specs.Trees.{Text, Parameters, NoParameter, Statements, Done, Object, Data, Pointer, Initializer, Declaration, Record, Global, Prototype, Definition}
-use Rattle.c_ast.specs.Cells.{Cell, tokens, Hot, Cold, none, less, link}
-use Rattle.c_ast.specs.Grammar.{limit, star_limit, base_cells, star_cells, type_cells, parameters_cells, length_cells, object_cells, objects_cells, AreStatements, block_cells, IsInitializerIfAny, initial_cells, IsDeclaration, head_cells, declaration_cells}
-use Rattle.c_parse_expr.specs.Reads.{Reads, Reader, made, build, ◌⊳◌, then_by, choose}
+use Rattle.c_ast.specs.Trees.{Text, Parameters, Statements, Object, Data, Pointer, Initializer, Declaration, Record, Global, Prototype, Definition}
+use Rattle.c_ast.specs.Cells.{Cell}
+use Rattle.c_ast.specs.Grammar.{limit, star_limit, base_cells, star_cells, type_cells, length_cells, AreStatements, block_cells, IsInitializerIfAny, initial_cells, IsDeclaration, declaration_cells}
+use Rattle.c_parse_expr.specs.Reads.{made, build, ◌⊳◌, then_by}
 use Rattle.c_parse_expr.specs.Reading.{same_mark, same_keyword, sees, more_unsigned, expect, name, base_type, stars, type_of}
-use Rattle.c_parse_expr.proofs.Exact.{Kind, Exact, Sound, Opens, Heads, Leads, both, both_on, seq, seq_on, narrow, choose_exact, opens_left, leads_left, leads_opens}
-use Rattle.c_parse_expr.proofs.Chains.{shorter}
-use Rattle.c_parse_expr.proofs.Sorts.{token_opens, mark_kind, expect_exact, name_kind, name_exact, at_head, sees_heads, mark_self}
-use Rattle.c_parse_expr.proofs.TypeNames.{base_kind, base_stops, base_exact, base_lead, base_leads, stars_kind, stars_exact}
+use Rattle.c_parse_expr.proofs.Exact.{Kind, Exact, Opens, both, both_on, seq, seq_on, narrow, choose_exact, leads_opens}
+use Rattle.c_parse_expr.proofs.Sorts.{token_opens, mark_kind, expect_exact, name_kind, name_exact, at_head, mark_self}
+use Rattle.c_parse_expr.proofs.TypeNames.{base_kind, base_stops, base_exact, stars_kind, stars_exact}
 use Rattle.c_parse.specs.Statements.{block}
-use Rattle.c_parse.specs.Declarations.{start_or_end, body_if_any, Sized, pointer, length_if_any, signature, pointer_by, initial, record_fields, Rest, PointerRest, FunctionRest, DataRest, pointer_rest, function_rest, data_rest, named_rest, rest, declaration_by, After, Fields, Starred, is_tagged, declares, after, record_by, declaration_after, decl}
+use Rattle.c_parse.specs.Declarations.{start_or_end, body_if_any, Sized, record_fields, Rest, PointerRest, FunctionRest, DataRest, pointer_rest, function_rest, data_rest, named_rest, rest, declaration_by, After, Fields, Starred, is_tagged, declares, after, declaration_after, decl}
 use Rattle.c_parse.proofs.Params.{and_false}
 use Rattle.c_parse.proofs.Rights.{other_mark}
 use Rattle.c_parse.proofs.Stmts.{block_kind, block_exact}
 use Rattle.c_parse.proofs.Inits.{initial_kind, initial_exact, initial_ends, initial_spelled, initial_any, any_initial}
-use Rattle.c_parse.proofs.Objects.{length_kind, length_exact, length_spelled, length_any, length_ends, signature_cells, signature_kind, signature_exact, sized_cells, pointer_cells, pointer_kind, pointer_exact, record_cells, record_kind, record_exact}
+use Rattle.c_parse.proofs.Objects.{length_kind, length_exact, length_spelled, length_any, length_ends, signature_cells, signature_kind, signature_exact, pointer_cells, pointer_kind, pointer_exact, record_cells, record_kind, record_exact}
 
 -- ---- ends of declarations
 

@@ -1,24 +1,23 @@
 -- Reading an initialiser is exact.
-use Rattle.std.proofs.Common.{◌≡◌, ◌≢◌, ◌∙◌, refl, sym, ap, subst, ℕ, zero, suc, ◌<◌, Bool, true, false, not, List, [], ◌∷◌, ◌++◌, length, append_assoc, Option, Some, None, Ok, Err, cond, arith, inl, inr}
+use Rattle.std.proofs.Common.{◌≡◌, ◌≢◌, ◌∙◌, refl, sym, ap, subst, ℕ, zero, suc, ◌<◌, Bool, true, false, not, List, [], ◌∷◌, ◌++◌, length, Option, Some, None, Ok, Err, cond, arith, inl, inr}
 use Rattle.std.specs.Prelude.{◌||◌, ◌&&◌}
 use Rattle.c_ast.specs.declared.token.Token.{Token}
 use Rattle.c_ast.specs.declared.token.Token.TheVariants as token
-use Rattle.c_ast.specs.declared.token.Mark.{Mark}
 use Rattle.c_ast.specs.declared.token.Mark.TheVariants as m
 use Rattle.c_ast.specs.declared.fault.Fault.TheVariants.{Syntax, TooDeep}
 use Rattle.c_ast.specs.declared.expr.UnaryOperator.{UnaryOperator}
 use Rattle.c_ast.specs.declared.expr.UnaryOperator.TheVariants as unary_operator
 use Rattle.c_ast.specs.Trees.{Text, Expression, Num, Char, Var, Paren, Size, At, Part, Prefix, Convert, Op, Cond, Initializer, Single, Bytes, Braces, Initializers, NoMore, Next, initializers_of}
 use Rattle.c_ast.specs.Cells.{Cell, tokens, Hot, Cold, none, less}
-use Rattle.c_ast.specs.Grammar.{limit, rank, cells, unary_mark, IsExpression, comma_cells, IsInitializer, AreInitializers, initializer_cells, initializers_cells, more_initializers, IsInitializerIfAny, initial_cells}
-use Rattle.c_parse_expr.specs.Reads.{Reads, Reader, made, build, ◌⊳◌, give, choose, optional, one, at_limit}
-use Rattle.c_parse_expr.specs.Reading.{same_mark, same_keyword, is_mark, sees, sees_one, is_some, expect, begins, expr}
+use Rattle.c_ast.specs.Grammar.{limit, rank, cells, unary_mark, IsExpression, comma_cells, IsInitializer, AreInitializers, initializer_cells, more_initializers, IsInitializerIfAny, initial_cells}
+use Rattle.c_parse_expr.specs.Reads.{Reads, Reader, made, build, ◌⊳◌, give, one, at_limit}
+use Rattle.c_parse_expr.specs.Reading.{same_mark, is_mark, sees, sees_one, is_some, expect, begins, expr}
 use Rattle.c_parse_expr.proofs.Exact.{Kind, Exact, Sound, IsHot, Opens, Heads, Leads, both, seq, narrow, choose_exact, option_kind, option_exact, option_well, option_cells, option_stops, one_kind, one_exact, limit_exact, opens_left, leads_left, leads_opens, leads_hot}
 use Rattle.c_parse_expr.proofs.Chains.{list_well, list_cells, some_well, some_cells, shorter}
-use Rattle.c_parse_expr.proofs.Sorts.{token_opens, mark_kind, expect_exact, at_head, sees_heads, mark_self, grip, before_mark, is_some_is}
-use Rattle.c_parse_expr.proofs.Exprs.{kind, rank_small, lead, leads, opens_lead, begins_lead, begun, zero_number, expr_exact}
+use Rattle.c_parse_expr.proofs.Sorts.{token_opens, mark_kind, expect_exact, at_head, sees_heads, mark_self, grip, before_mark}
+use Rattle.c_parse_expr.proofs.Exprs.{kind, rank_small, lead, leads, opens_lead, begins_lead, begun, expr_exact}
 use Rattle.c_parse.specs.Declarations.{pick_text, sees_next, next_init, inits, last_comma, init_braces, begins_init, init_text, init_by, init, initial_value, initial}
-use Rattle.c_parse.proofs.Lists.{last_stops, kept_stops, some_kept, some_kept_exact}
+use Rattle.c_parse.proofs.Lists.{last_stops, some_kept, some_kept_exact}
 use Rattle.c_parse.proofs.Rights.{other_mark}
 
 abbrev pub init_stops : Initializer → List Token → Type 0

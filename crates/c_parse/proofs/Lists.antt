@@ -1,8 +1,8 @@
 -- Reading a list is exact, where what ends it depends on its last tree.
-use Rattle.std.proofs.Common.{◌≡◌, ◌∙◌, refl, sym, ap, subst, ℕ, zero, suc, ◌<◌, ◌≤◌, Bool, true, false, List, [], ◌∷◌, ◌++◌, length, arith, Ok, Err, cond}
+use Rattle.std.proofs.Common.{◌≡◌, ◌∙◌, refl, sym, ap, subst, ℕ, zero, suc, ◌≤◌, Bool, true, false, List, [], ◌∷◌, ◌++◌, length, arith, Ok, Err, cond}
 use Rattle.c_ast.specs.declared.token.Token.{Token}
 use Rattle.c_ast.specs.declared.fault.Fault.TheVariants.{Syntax, TooDeep}
-use Rattle.c_ast.specs.Cells.{Cell, tokens, Hot, Cold}
+use Rattle.c_ast.specs.Cells.{tokens, Hot, Cold}
 use Rattle.c_parse_expr.specs.Reads.{Reads, Reader, ◌>>=◌, made, pair_of, climb, snoc, some_of}
 use Rattle.c_parse_expr.proofs.Exact.{Kind, Exact, Sound, IsHot, Opens, both_with, two_exact, narrow, opens_left, opens_all, opens_hot, opens_spelled}
 use Rattle.c_parse_expr.proofs.Chains.{many, folded, climb_is_many, folded_snoc, shorter, list_well, list_cells, some_well, some_cells}

@@ -1,25 +1,20 @@
 -- Reading fields and a declaration's names is exact.
-use Rattle.std.proofs.Common.{◌≡◌, ◌≢◌, ◌∙◌, refl, sym, ap, subst, ℕ, zero, suc, ◌<◌, Bool, true, false, List, [], ◌∷◌, ◌++◌, length, append_assoc, Option, Some, None, Ok, Err, cond, arith}
-use Rattle.std.proofs.lemmas.List.{append-nil}
+use Rattle.std.proofs.Common.{◌≡◌, ◌∙◌, refl, sym, ap, subst, suc, ◌<◌, Bool, true, false, List, [], ◌∷◌, ◌++◌, length, append_assoc, Option, Some, None, Ok, Err, arith}
 use Rattle.c_ast.specs.declared.token.Token.{Token}
 use Rattle.c_ast.specs.declared.token.Token.TheVariants as token
 use Rattle.c_ast.specs.declared.token.Number.{Number}
-use Rattle.c_ast.specs.declared.token.Mark.{Mark}
 use Rattle.c_ast.specs.declared.token.Mark.TheVariants as m
-use Rattle.c_ast.specs.declared.types.BaseType.{BaseType}
-use Rattle.c_ast.specs.declared.types.BaseType.TheVariants as base
 use Rattle.c_ast.specs.declared.types.TypeName.{TypeName}
-use Rattle.c_ast.specs.Trees.{Text, Parameters, NoParameter, Object, Data, Pointer}
-use Rattle.c_ast.specs.Cells.{Cell, tokens, Hot, Cold, none, less}
+use Rattle.c_ast.specs.Trees.{Parameters, NoParameter, Object, Data, Pointer}
+use Rattle.c_ast.specs.Cells.{Cell}
 use Rattle.c_ast.specs.Grammar.{limit, type_cells, parameters_cells, length_cells, object_cells, objects_cells}
-use Rattle.c_parse_expr.specs.Reads.{Reads, Reader, made, build, ◌⊳◌, then_by, choose, optional, one}
-use Rattle.c_parse_expr.specs.Reading.{same_mark, same_keyword, sees, expect, name, type_name}
-use Rattle.c_parse_expr.proofs.Exact.{Kind, Exact, Sound, Opens, Heads, Leads, both, both_on, seq, seq_on, narrow, choose_exact, option_kind, option_exact, option_well, option_cells, option_stops, one_kind, one_exact, opens_left, leads_left, leads_opens}
+use Rattle.c_parse_expr.specs.Reads.{Reads, made, build, ◌⊳◌, then_by, one}
+use Rattle.c_parse_expr.specs.Reading.{same_mark, sees, name, type_name}
+use Rattle.c_parse_expr.proofs.Exact.{Kind, Exact, Sound, Opens, Heads, both, both_on, seq, seq_on, narrow, choose_exact, option_kind, option_exact, option_well, one_kind, one_exact, opens_left, leads_opens}
 use Rattle.c_parse_expr.proofs.Chains.{list_well, list_cells, list_kind, listed_exact, shorter}
 use Rattle.c_parse_expr.proofs.Sorts.{token_opens, mark_kind, expect_exact, name_kind, name_exact, at_head, mark_self}
 use Rattle.c_parse_expr.proofs.TypeNames.{type_kind, type_stops, type_exact, type_opens}
-use Rattle.c_parse_expr.proofs.Exprs.{zero_number, int_type}
-use Rattle.c_parse.specs.Parameters.{params}
+use Rattle.c_parse_expr.proofs.Exprs.{zero_number}
 use Rattle.c_parse.specs.Statements.{more_items}
 use Rattle.c_parse.specs.Declarations.{pick_number, array_length, length_if_any, signature, Sized, sized, pointer, data_by, pointer_by, field_rest, field, fields, record_fields}
 use Rattle.c_parse.proofs.Params.{params_kind, params_exact, params_before_close, type_before_paren, type_before_name}

@@ -1,11 +1,10 @@
 -- Reading parameters is exact.
-use Rattle.std.proofs.Common.{◌≡◌, ◌≢◌, ◌∙◌, refl, sym, ap, subst, ℕ, zero, suc, ◌<◌, Bool, true, false, List, [], ◌∷◌, ◌++◌, length, append_assoc, Option, Some, None, Ok, Err, cond, nat_eq, arith}
+use Rattle.std.proofs.Common.{◌≡◌, ◌∙◌, refl, sym, ap, subst, ℕ, zero, suc, ◌<◌, Bool, true, false, List, [], ◌∷◌, ◌++◌, length, append_assoc, Option, Some, None, Ok, Err, cond, nat_eq, arith}
 use Rattle.std.specs.Prelude.{◌&&◌, ◌||◌}
 use Rattle.std.proofs.lemmas.Bool.Decides.{nat_tests}
 use Rattle.std.proofs.lemmas.List.{append-nil}
 use Rattle.c_ast.specs.declared.token.Token.{Token}
 use Rattle.c_ast.specs.declared.token.Token.TheVariants as token
-use Rattle.c_ast.specs.declared.token.Mark.{Mark}
 use Rattle.c_ast.specs.declared.token.Mark.TheVariants as m
 use Rattle.c_ast.specs.declared.token.Keyword.TheVariants as k
 use Rattle.c_ast.specs.declared.types.TagKind.{TagKind}
@@ -14,13 +13,13 @@ use Rattle.c_ast.specs.declared.types.BaseType.{BaseType}
 use Rattle.c_ast.specs.declared.types.BaseType.TheVariants as base
 use Rattle.c_ast.specs.declared.types.TypeName.{TypeName}
 use Rattle.c_ast.specs.Trees.{Text, Parameter, Plain, Function, Parameters, NoParameter, Also, parameters_of}
-use Rattle.c_ast.specs.Cells.{Cell, tokens, Hot, Cold, none, less}
+use Rattle.c_ast.specs.Cells.{Cell, tokens, Hot, none}
 use Rattle.c_ast.specs.Grammar.{star_limit, base_cells, star_cells, type_cells, parameter_cells, parameters_cells, more_parameters}
 use Rattle.c_parse_expr.specs.Reads.{Reads, Reader, made, build, ◌⊳◌, choose, unless, some_of, list_if_any, at_limit}
-use Rattle.c_parse_expr.specs.Reading.{same_mark, same_keyword, is_mark, is_keyword, sees, sees_keyword, sees_one, is_some, pick_tag, pick_base, more_unsigned, expect, name, type_name, begins_type}
+use Rattle.c_parse_expr.specs.Reading.{same_mark, same_keyword, is_keyword, sees, is_some, pick_tag, pick_base, more_unsigned, type_name, begins_type}
 use Rattle.c_parse_expr.proofs.Exact.{Kind, Exact, Sound, IsHot, Opens, Heads, Leads, both, both_with, two_exact, seq, narrow, widen, choose_exact, limit_exact, opens_heads, opens_left, opens_all, opens_hot, leads_left, leads_opens, leads_hot}
-use Rattle.c_parse_expr.proofs.Chains.{list_well, list_cells, some_well, some_cells, some_kind, some_exact, if_any_kind, if_any_exact, shorter}
-use Rattle.c_parse_expr.proofs.Sorts.{token_opens, mark_kind, expect_exact, name_kind, name_exact, at_head, opened, sees_heads, sees_keyword_heads, mark_self, is_some_is, keyword_is}
+use Rattle.c_parse_expr.proofs.Chains.{list_well, list_cells, some_kind, some_exact, if_any_kind, if_any_exact, shorter}
+use Rattle.c_parse_expr.proofs.Sorts.{token_opens, mark_kind, expect_exact, name_kind, name_exact, at_head, opened, sees_heads, mark_self, keyword_is}
 use Rattle.c_parse_expr.proofs.TypeNames.{type_kind, type_stops, type_exact, type_ends, type_opens, base_lead, base_leads, base_begins}
 use Rattle.c_parse.specs.Parameters.{Declarator, plain_declarator, function_declarator, declarator, parameter_by, param, next_param, is_void_base, is_void, alone, first_param, some_params, params_after, params_by, params}
 

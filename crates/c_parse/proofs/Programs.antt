@@ -1,5 +1,5 @@
 -- A text has one program at most, and one refusal.
-use Rattle.std.proofs.Common.{◌≡◌, ◌≢◌, ◌∙◌, ◌↔◌, refl, sym, ap, subst, ℕ, suc, ◌+◌, ◌<◌, ◌≤◌, Bool, true, false, ◌⊎◌, inl, inr, List, [], ◌∷◌, ◌++◌, length, append_assoc, Option, Some, None, Result, Ok, Err, nat_eq, arith}
+use Rattle.std.proofs.Common.{◌≡◌, ◌≢◌, ◌∙◌, ◌↔◌, refl, sym, ap, subst, ℕ, suc, ◌+◌, ◌<◌, ◌≤◌, false, inl, inr, List, [], ◌∷◌, ◌++◌, length, append_assoc, Result, Ok, Err, arith}
 use Rattle.std.specs.Prelude.{IfOk}
 use Rattle.std.proofs.lemmas.List.{append-nil}
 use Rattle.c_ast.specs.declared.token.Token.{Token}
@@ -7,9 +7,9 @@ use Rattle.c_ast.specs.declared.token.Token.TheVariants as token
 use Rattle.c_ast.specs.declared.fault.Fault.{Fault}
 use Rattle.c_ast.specs.declared.fault.Fault.TheVariants.{Syntax, TooDeep}
 use Rattle.c_ast.specs.declared.decl.Decl.{Decl}
-use Rattle.c_ast.specs.Trees.{Object, Data, Pointer, Declaration, Record, Global, Prototype, Definition, declaration, declarations}
+use Rattle.c_ast.specs.Trees.{Data, Pointer, Declaration, Record, Global, Prototype, Definition, declaration, declarations}
 use Rattle.c_ast.specs.Cells.{tokens, Hot, Cold, none}
-use Rattle.c_ast.specs.Grammar.{top, limit, tag_keyword, type_cells, declaration_cells}
+use Rattle.c_ast.specs.Grammar.{top, tag_keyword, type_cells, declaration_cells}
 use Rattle.c_ast.specs.Program.{declaration_spelling, IsDeclarationWithinBounds, AreWithinBounds, spelling, IsProgram, IsDeep, IsRefusedAt}
 use Rattle.c_parse_expr.specs.declared.error.ReadError.{ReadError}
 use Rattle.c_parse_expr.specs.declared.error.ReadError.TheVariants as read

@@ -1,6 +1,6 @@
 -- Reading calls, right sides and statements without a statement in them is exact.
-use Rattle.std.proofs.Common.{◌≡◌, ◌≢◌, ◌∙◌, refl, sym, ap, subst, ℕ, zero, suc, ◌<◌, Bool, true, false, List, [], ◌∷◌, ◌++◌, length, append_assoc, Option, Some, None, Ok, Err, cond, nat_eq, arith}
-use Rattle.std.specs.Prelude.{◌&&◌, ◌||◌}
+use Rattle.std.proofs.Common.{◌≡◌, ◌∙◌, refl, sym, ap, subst, ℕ, suc, ◌<◌, Bool, true, false, List, [], ◌∷◌, ◌++◌, length, Option, Some, None, Ok, Err, cond, arith}
+use Rattle.std.specs.Prelude.{◌&&◌}
 use Rattle.std.proofs.lemmas.Bool.Decides.{nat_tests}
 use Rattle.std.proofs.lemmas.List.{append-nil}
 use Rattle.c_ast.specs.declared.token.Token.{Token}
@@ -9,17 +9,15 @@ use Rattle.c_ast.specs.declared.token.Mark.{Mark}
 use Rattle.c_ast.specs.declared.token.Mark.TheVariants as m
 use Rattle.c_ast.specs.declared.token.Keyword.TheVariants as k
 use Rattle.c_ast.specs.declared.fault.Fault.TheVariants.{Syntax}
-use Rattle.c_ast.specs.declared.types.BaseType.TheVariants as base
-use Rattle.c_ast.specs.Trees.{Text, Expression, Num, Parameter, Plain, Parameters, Right, Invoke, Value, Setting, Statement, Block, Empty, Local, Assign, Call, If, IfElse, While, For, Break, Continue, Return}
-use Rattle.c_ast.specs.Cells.{Cell, tokens, Hot, Cold, none, less}
+use Rattle.c_ast.specs.Trees.{Expression, Num, Parameter, Parameters, Right, Invoke, Value, Setting, Statement, Empty, Local, Break, Continue, Return}
+use Rattle.c_ast.specs.Cells.{Cell}
 use Rattle.c_ast.specs.Grammar.{rank, cells, IsExpression, AreExpressions, more_arguments, argument_cells, call_cells, IsRight, right_cells, IsRightIfAny, right_cells_if_any, start_cells, IsSetting, setting_cells, parameter_cells, is_open, IsStatement, statement_cells}
-use Rattle.c_parse_expr.specs.Reads.{Reads, Reader, made, build, ◌⊳◌, then_by, choose, optional, unless, some_of, list_if_any}
-use Rattle.c_parse_expr.specs.Reading.{same_mark, same_keyword, is_mark, is_keyword, sees, sees_keyword, expect, expect_keyword, begins, begins_type, expr}
+use Rattle.c_parse_expr.specs.Reads.{Reader, made, ◌⊳◌, unless}
+use Rattle.c_parse_expr.specs.Reading.{same_mark, same_keyword, is_mark, sees, sees_keyword, expect, begins, expr}
 use Rattle.c_parse_expr.proofs.Exact.{Kind, Exact, Sound, IsHot, Opens, Heads, Leads, Glue_some, both, both_on, both_keep, keep_stops, seq, seq_on, seq_keep, narrow, widen, choose_exact, option_kind, option_exact, option_well, option_cells, option_stops, unless_kind, unless_exact, unless_stops, opens_heads, opens_left, leads_left, leads_opens}
-use Rattle.c_parse_expr.proofs.Chains.{list_well, list_cells, some_well, some_cells, some_kind, some_exact, if_any_kind, if_any_exact, shorter}
-use Rattle.c_parse_expr.proofs.Sorts.{token_opens, mark_kind, keyword_kind, expect_exact, expect_keyword_exact, at_head, sees_heads, mark_is, mark_self, keyword_self, grip_of, grip, heads_grip, before_mark}
-use Rattle.c_parse_expr.proofs.Exprs.{kind, rank_small, lead, leads, opens_lead, glue_mark, zero_number, some_expression, begins_lead, expr_exact}
-use Rattle.c_parse.specs.Parameters.{param}
+use Rattle.c_parse_expr.proofs.Chains.{list_well, list_cells, some_kind, some_exact, if_any_kind, if_any_exact, shorter}
+use Rattle.c_parse_expr.proofs.Sorts.{token_opens, mark_kind, keyword_kind, expect_exact, expect_keyword_exact, at_head, mark_is, mark_self, grip, before_mark}
+use Rattle.c_parse_expr.proofs.Exprs.{kind, rank_small, lead, opens_lead, glue_mark, zero_number, some_expression, begins_lead, expr_exact}
 use Rattle.c_parse.specs.Statements.{next_argument, some_arguments, arguments, call, is_postfix, calls, right_by, call_if_any, right, start_value, start, local, setting, Tail, Assigned, Called, assigned, called, only_after, tail, statement_by, simple, leave, break_off, go_on, empty, condition}
 use Rattle.c_parse.proofs.Params.{and_false, params_kind, param_kind, param_exact}
 

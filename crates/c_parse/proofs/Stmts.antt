@@ -1,5 +1,5 @@
 -- Reading a statement is exact.
-use Rattle.std.proofs.Common.{◌≡◌, ◌≢◌, ◌∙◌, refl, sym, ap, subst, ℕ, zero, suc, ◌<◌, ◌≤◌, Bool, true, false, not, List, [], ◌∷◌, ◌++◌, length, append_assoc, Option, Some, None, Ok, Err, cond, arith}
+use Rattle.std.proofs.Common.{◌≡◌, ◌∙◌, refl, sym, ap, subst, ℕ, zero, suc, ◌<◌, Bool, true, false, not, List, [], ◌∷◌, ◌++◌, length, append_assoc, Option, Some, None, Ok, cond, arith}
 use Rattle.std.specs.Prelude.{◌||◌}
 use Rattle.std.proofs.lemmas.List.{append-nil}
 use Rattle.c_ast.specs.declared.token.Token.{Token}
@@ -11,23 +11,22 @@ use Rattle.c_ast.specs.declared.token.Keyword.TheVariants as k
 use Rattle.c_ast.specs.declared.types.TagKind.TheVariants as tag
 use Rattle.c_ast.specs.declared.types.BaseType.{BaseType}
 use Rattle.c_ast.specs.declared.types.BaseType.TheVariants as base
-use Rattle.c_ast.specs.declared.types.TypeName.{TypeName}
 use Rattle.c_ast.specs.declared.expr.UnaryOperator.{UnaryOperator}
 use Rattle.c_ast.specs.declared.expr.UnaryOperator.TheVariants as unary_operator
-use Rattle.c_ast.specs.Trees.{Text, Expression, Num, Char, Var, Paren, Size, At, Part, Prefix, Convert, Op, Cond, Parameter, Plain, Parameters, Right, Value, Setting, Statement, Block, Empty, Local, Assign, Call, If, IfElse, While, For, Break, Continue, Return, Statements, Done, Then, statements_of}
-use Rattle.c_ast.specs.Cells.{Cell, tokens, Hot, Cold, none, less}
-use Rattle.c_ast.specs.Grammar.{rank, cells, unary_mark, IsExpression, AreExpressions, call_cells, IsRight, right_cells, IsRightIfAny, IsSetting, setting_cells, IsSettingIfAny, setting_cells_if_any, IsExpressionIfAny, cells_if_any, parameter_cells, is_open, IsStatement, AreStatements, statement_cells, block_cells, statements_cells}
-use Rattle.c_parse_expr.specs.Reads.{Reads, Reader, ◌>>=◌, made, build, ◌⊳◌, choose, optional, unless, at_limit, climb, snoc}
-use Rattle.c_parse_expr.specs.Reading.{same_mark, same_keyword, is_mark, is_keyword, sees, sees_keyword, sees_one, expect, expect_keyword, begins, begins_type, unary, expr}
-use Rattle.c_parse_expr.proofs.Exact.{Kind, Exact, Sound, IsHot, Opens, Heads, Leads, both, both_with, two_exact, seq, narrow, widen, choose_exact, option_kind, option_exact, option_well, option_cells, option_stops, unless_kind, unless_exact, unless_stops, limit_exact, opens_left, opens_all, opens_hot, leads_left, leads_opens, leads_hot}
+use Rattle.c_ast.specs.Trees.{Expression, Num, Char, Var, Paren, Size, At, Part, Prefix, Convert, Op, Cond, Parameter, Plain, Parameters, Right, Value, Setting, Statement, Block, Empty, Local, Assign, Call, If, IfElse, While, For, Break, Continue, Return, Statements, Done, Then, statements_of}
+use Rattle.c_ast.specs.Cells.{Cell, tokens, Hot, none, less}
+use Rattle.c_ast.specs.Grammar.{rank, cells, unary_mark, IsExpression, IsRightIfAny, IsSettingIfAny, setting_cells_if_any, IsExpressionIfAny, cells_if_any, parameter_cells, is_open, IsStatement, AreStatements, statement_cells, block_cells, statements_cells}
+use Rattle.c_parse_expr.specs.Reads.{Reader, made, ◌⊳◌, unless, at_limit}
+use Rattle.c_parse_expr.specs.Reading.{same_mark, same_keyword, is_mark, is_keyword, sees, sees_keyword, expect, begins, begins_type, unary, expr}
+use Rattle.c_parse_expr.proofs.Exact.{Kind, Exact, Sound, Opens, Heads, both, both_with, two_exact, seq, narrow, option_kind, option_exact, option_well, option_cells, unless_kind, unless_exact, limit_exact, opens_left, leads_left, leads_opens, leads_hot}
 use Rattle.c_parse_expr.proofs.Chains.{list_well, list_cells, list_kind, listed_exact, shorter}
 use Rattle.c_parse_expr.proofs.Sorts.{token_opens, mark_kind, keyword_kind, expect_exact, expect_keyword_exact, at_head, sees_heads, sees_keyword_heads, mark_is, mark_self, keyword_self, keyword_is, grip, before_mark}
-use Rattle.c_parse_expr.proofs.TypeNames.{base_lead, base_leads, base_begins}
-use Rattle.c_parse_expr.proofs.Exprs.{kind, rank_small, lead, leads, opens_lead, begins_lead, begun, lead_not_type, zero_number, unary_exact, expr_exact}
+use Rattle.c_parse_expr.proofs.TypeNames.{base_lead, base_begins}
+use Rattle.c_parse_expr.proofs.Exprs.{kind, rank_small, lead, leads, opens_lead, begins_lead, begun, zero_number, unary_exact, expr_exact}
 use Rattle.c_parse.specs.Parameters.{params}
-use Rattle.c_parse.specs.Statements.{setting, condition, otherwise, otherwise_if_any, if_by, branch, repeat, Head, head, counted, more_items, body, braces, begins_keyword, by_keyword, begins_statement, by_first, block, stmt, Tail, Assigned, Called, statement_by, empty, local, simple, leave, break_off, go_on}
-use Rattle.c_parse.proofs.Params.{param_type, param_leads, param_opens, params_kind, params_exact, type_begun}
-use Rattle.c_parse.proofs.Rights.{semicolon_no, close_no, not_lead, right_kind, statement_kind, local_exact, setting_kind, setting_exact, tail_well, simple_exact, leave_exact, break_exact, continue_exact, empty_exact, condition_kind, condition_exact}
+use Rattle.c_parse.specs.Statements.{setting, otherwise, otherwise_if_any, if_by, branch, repeat, Head, head, counted, more_items, body, braces, begins_keyword, by_keyword, begins_statement, by_first, block, stmt, Tail, Assigned, Called, statement_by, empty, local, simple, leave, break_off, go_on}
+use Rattle.c_parse.proofs.Params.{param_type, param_leads, params_kind, params_exact, type_begun}
+use Rattle.c_parse.proofs.Rights.{semicolon_no, close_no, statement_kind, local_exact, setting_kind, setting_exact, tail_well, simple_exact, leave_exact, break_exact, continue_exact, empty_exact, condition_kind, condition_exact}
 
 -- ---- the first token of a statement
 

@@ -1,18 +1,17 @@
 -- Reading declarations from left to right: what each function of src/ gives.
-use Rattle.std.specs.Prelude.{◌≡◌, ℕ, zero, suc, Bool, true, false, not, ◌||◌, ◌&&◌, List, [], ◌∷◌, length, Option, Some, None}
+use Rattle.std.specs.Prelude.{ℕ, zero, suc, Bool, true, false, not, ◌||◌, ◌&&◌, List, [], ◌∷◌, length, Option, Some, None}
 use Rattle.c_ast.specs.declared.token.Token.{Token}
 use Rattle.c_ast.specs.declared.token.Token.TheVariants as token
 use Rattle.c_ast.specs.declared.token.Number.{Number}
 use Rattle.c_ast.specs.declared.token.Mark.TheVariants as m
-use Rattle.c_ast.specs.declared.types.TagKind.{TagKind}
 use Rattle.c_ast.specs.declared.types.TagKind.TheVariants as tag
 use Rattle.c_ast.specs.declared.types.BaseType.{BaseType}
 use Rattle.c_ast.specs.declared.types.BaseType.TheVariants as base
 use Rattle.c_ast.specs.declared.types.TypeName.{TypeName}
-use Rattle.c_ast.specs.Trees.{Text, Expression, Parameters, Statements, Object, Data, Pointer, Initializer, Single, Bytes, Braces, Initializers, initializers_of, Declaration, Record, Global, Prototype, Definition}
+use Rattle.c_ast.specs.Trees.{Text, Expression, Parameters, Statements, Object, Data, Pointer, Initializer, Single, Bytes, Braces, initializers_of, Declaration, Record, Global, Prototype, Definition}
 use Rattle.c_ast.specs.Grammar.{limit}
-use Rattle.c_parse_expr.specs.Reads.{Reader, ◌>>=◌, build, ◌⊳◌, then_by, give, choose, optional, unless, one, at_limit, climb, snoc, some_of}
-use Rattle.c_parse_expr.specs.Reading.{is_mark, sees, sees_one, is_some, expect, name, begins, base_type, stars, type_of, type_name, expr}
+use Rattle.c_parse_expr.specs.Reads.{Reader, build, ◌⊳◌, then_by, give, choose, optional, one, at_limit, climb, snoc, some_of}
+use Rattle.c_parse_expr.specs.Reading.{is_mark, sees, sees_one, expect, name, begins, base_type, stars, type_of, type_name, expr}
 use Rattle.c_parse.specs.Parameters.{params}
 use Rattle.c_parse.specs.Statements.{more_items, block}
 

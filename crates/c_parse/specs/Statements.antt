@@ -1,12 +1,12 @@
 -- Reading statements from left to right: what each function of src/ gives.
-use Rattle.std.specs.Prelude.{◌≡◌, ℕ, zero, suc, Bool, true, false, not, cond, ◌||◌, ◌&&◌, nat_eq, List, [], ◌∷◌, length, Option, Some, None, Err}
+use Rattle.std.specs.Prelude.{ℕ, zero, suc, Bool, false, not, cond, ◌||◌, ◌&&◌, nat_eq, List, [], ◌∷◌, length, Option, Some, None, Err}
 use Rattle.c_ast.specs.declared.token.Token.{Token}
 use Rattle.c_ast.specs.declared.token.Mark.TheVariants as m
 use Rattle.c_ast.specs.declared.token.Keyword.TheVariants as k
 use Rattle.c_ast.specs.declared.fault.Fault.TheVariants.{Syntax}
 use Rattle.c_ast.specs.Trees.{Expression, Parameters, Right, Invoke, Value, Setting, Statement, Block, Empty, Local, Assign, Call, If, IfElse, While, For, Break, Continue, Return, Statements, statements_of}
 use Rattle.c_ast.specs.Grammar.{rank}
-use Rattle.c_parse_expr.specs.Reads.{Reader, ◌>>=◌, build, ◌⊳◌, then_by, choose, optional, unless, at_limit, climb, snoc, some_of, list_if_any}
+use Rattle.c_parse_expr.specs.Reads.{Reader, build, ◌⊳◌, then_by, choose, optional, unless, at_limit, climb, snoc, some_of, list_if_any}
 use Rattle.c_parse_expr.specs.Reading.{is_mark, sees, sees_keyword, expect, expect_keyword, begins, begins_type, unary, expr}
 use Rattle.c_parse.specs.Parameters.{param, params}
 

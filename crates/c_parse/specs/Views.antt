@@ -1,9 +1,9 @@
 -- What a contract sees of the parts that functions of src/ hand on.
-use Rattle.std.specs.Prelude.{ℕ, List, Option, Some, None}
+use Rattle.std.specs.Prelude.{List, Option, Some, None}
 use Rattle.c_ast.specs.declared.expr.Expr.{Expr}
 use Rattle.c_ast.specs.declared.stmt.Param.{Param}
 use Rattle.c_ast.specs.declared.stmt.Stmt.{Stmt}
-use Rattle.c_ast.specs.Trees.{Text, Expression, expressions, Parameters, parameters, Statements, statements, right, objects, initializer_if_any}
+use Rattle.c_ast.specs.Trees.{Expression, expressions, Parameters, parameters, Statements, statements, right, objects, initializer_if_any}
 use Rattle.c_parse.specs.declared.parts.After.{After}
 use Rattle.c_parse.specs.declared.parts.After.TheVariants as parts
 use Rattle.c_parse.specs.declared.decl.Rest.{Rest as CodedRest}

@@ -1,9 +1,8 @@
 -- Reading a chain or a list is exact, where reading each of its parts is.
-use Rattle.std.proofs.Common.{◌≡◌, ◌∙◌, refl, sym, ap, subst, ℕ, zero, suc, ◌<◌, ◌≤◌, Bool, true, false, ◌⊎◌, inl, inr, List, [], ◌∷◌, ◌++◌, length, length-append, append_assoc, ◌-◌, arith, Option, Some, None, Ok, Err, cond}
+use Rattle.std.proofs.Common.{◌≡◌, ◌∙◌, refl, sym, ap, subst, ℕ, zero, suc, ◌<◌, ◌≤◌, Bool, true, false, List, [], ◌∷◌, ◌++◌, length, length-append, append_assoc, ◌-◌, arith, Option, Some, None, Ok, Err, cond}
 use Rattle.std.proofs.lemmas.List.{append-nil}
 use Rattle.std.proofs.Math.Nat.{sub-zero}
 use Rattle.c_ast.specs.declared.token.Token.{Token}
-use Rattle.c_ast.specs.declared.fault.Fault.{Fault}
 use Rattle.c_ast.specs.declared.fault.Fault.TheVariants.{Syntax, TooDeep}
 use Rattle.c_ast.specs.Cells.{Cell, tokens, Hot, Cold, none, less}
 use Rattle.c_parse_expr.specs.Reads.{Reads, Reader, ◌>>=◌, made, pair_of, climb, snoc, some_of, build, unless, list_if_any}

@@ -1,9 +1,7 @@
 -- Reading a type is exact.
-use Rattle.std.proofs.Common.{◌≡◌, ◌≢◌, ◌∙◌, refl, sym, ap, subst, ℕ, zero, suc, Bool, true, false, ◌⊎◌, inl, inr, List, [], ◌∷◌, ◌++◌, Option, Some, None, Ok, Err, cond, arith}
-use Rattle.std.specs.Prelude.{◌||◌}
+use Rattle.std.proofs.Common.{◌≡◌, ◌∙◌, refl, sym, ap, subst, ℕ, zero, suc, Bool, true, false, inl, List, [], ◌∷◌, ◌++◌, Option, Some, None, cond, arith}
 use Rattle.c_ast.specs.declared.token.Token.{Token}
 use Rattle.c_ast.specs.declared.token.Token.TheVariants as token
-use Rattle.c_ast.specs.declared.token.Mark.{Mark}
 use Rattle.c_ast.specs.declared.token.Mark.TheVariants as m
 use Rattle.c_ast.specs.declared.token.Keyword.{Keyword}
 use Rattle.c_ast.specs.declared.token.Keyword.TheVariants as k
@@ -17,11 +15,11 @@ use Rattle.c_ast.specs.declared.types.TypeName.{TypeName}
 use Rattle.c_ast.specs.Trees.{Text}
 use Rattle.c_ast.specs.Cells.{Cell, none, less, link}
 use Rattle.c_ast.specs.Grammar.{star_limit, unsigned_cells, tag_keyword, base_cells, star_cells, type_cells}
-use Rattle.c_parse_expr.specs.Reads.{Reads, Reader, made, one, climb, build, ◌⊳◌}
-use Rattle.c_parse_expr.specs.Reading.{is_mark, same_mark, is_keyword, same_keyword, sees, sees_keyword, sees_one, is_some, expect, pick_unsigned, pick_tag, pick_base, long_long, unsigned_word, more_unsigned, plain_if_none, unsigned_rest, unsigned_type, tagged, base_type, one_more, stars, type_of, type_name, begins_type}
-use Rattle.c_parse_expr.proofs.Exact.{Kind, Exact, IsHot, Opens, Heads, Leads, both, both_keep, keep_stops, seq, seq_keep, narrow, widen, choose_exact, option_kind, option_exact, option_well, option_cells, option_stops, one_kind, one_exact, opens_heads, leads_left, leads_opens}
+use Rattle.c_parse_expr.specs.Reads.{made, one, build}
+use Rattle.c_parse_expr.specs.Reading.{same_mark, same_keyword, sees, sees_keyword, sees_one, expect, pick_unsigned, pick_tag, pick_base, long_long, unsigned_word, more_unsigned, plain_if_none, unsigned_rest, unsigned_type, tagged, base_type, one_more, stars, type_of, type_name, begins_type}
+use Rattle.c_parse_expr.proofs.Exact.{Kind, Exact, IsHot, Opens, Heads, Leads, both, both_keep, seq, seq_keep, narrow, widen, choose_exact, option_kind, option_exact, option_well, option_cells, option_stops, one_kind, one_exact, leads_left, leads_opens}
 use Rattle.c_parse_expr.proofs.Chains.{row, all_well, many_kind, many, many_exact, folded, climb_is_many}
-use Rattle.c_parse_expr.proofs.Sorts.{mark_kind, keyword_kind, expect_exact, expect_keyword_exact, name_kind, name_exact, at_head, opened, sees_heads, is_some_is}
+use Rattle.c_parse_expr.proofs.Sorts.{keyword_kind, expect_exact, expect_keyword_exact, name_kind, name_exact, at_head, opened, sees_heads}
 
 -- ---- unsigned types
 

@@ -1,4 +1,4 @@
-use Rattle.std.proofs.Common.{◌≡◌, ◌∙◌, sym, ap, subst, suc, ◌+◌, length, arith}
+use Rattle.std.proofs.Common.{◌≡◌, ◌∙◌, sym, subst, suc, ◌+◌, length, arith}
 use Rattle.c_ast.specs.Trees.{declaration}
 use Rattle.c_parse_expr.proofs.Wholes.{not_empty}
 use Rattle.c_parse.proofs.Programs.{SoFar, decl_falls, so_far_more, refuses}
