@@ -20,7 +20,7 @@ use Rattle.c_ast.specs.declared.expr.UnaryOperator.TheVariants as unary
 use Rattle.c_ast.specs.declared.expr.BinaryOperator.{BinaryOperator}
 use Rattle.c_ast.specs.declared.expr.BinaryOperator.TheVariants as binary
 use Rattle.c_ast.specs.Trees.{Text, Expression, Num, Char, Var, Paren, Size, At, Part, Prefix, Convert, Op, Cond, Parameter, Plain, Function, Parameters, NoParameter, Also, Right, Invoke, Value, Setting, Statement, Block, Empty, Local, Assign, Call, If, IfElse, While, For, Break, Continue, Return, Statements, Done, Then, Object, Data, Pointer, Initializer, Single, Bytes, Braces, Initializers, NoMore, Next, Declaration, Record, Global, Prototype, Definition}
-use Rattle.c_ast.specs.Cells.{Cell, none, less, at, mark, keyword, identifier, link}
+use Rattle.c_ast.specs.Cells.{Cell, less, at, mark, keyword, identifier, link}
 
 -- how many constructs may be open, operators a chain may have, and steps a postfix
 abbrev pub limit : ℕ

@@ -4,8 +4,7 @@ use crate::expr::Expr;
 use crate::stmt::{Param, Stmt};
 use crate::token::Number;
 use crate::types::{TagKind, TypeName};
-use lu_base::Bytes8;
-use lu_base::Name;
+use lu_base::{Bytes8, Name};
 use sqlite_items::{Boxed, Items};
 
 /// An object's type and name, with a length where it is an array.
@@ -31,7 +30,7 @@ pub enum Init {
 pub enum Decl {
     /// `struct name { fields } ;` or the same with `union`
     Record(TagKind, Name, Items<Named>),
-    Global(Named, Option<Init>),
+    Global(Named, Option<Boxed<Init>>),
     Prototype(TypeName, Name, Items<Param>),
     Function(TypeName, Name, Items<Param>, Items<Stmt>),
 }

@@ -1,7 +1,6 @@
 //! Tokens.
 
-use lu_base::Bytes8;
-use lu_base::Name;
+use lu_base::{Bytes8, Name};
 
 /// A keyword of the grammar.
 #[derive(Clone, Copy, Debug, PartialEq, Eq)]

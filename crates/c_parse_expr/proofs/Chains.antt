@@ -1,13 +1,12 @@
 -- Reading a chain or a list is exact, where reading each of its parts is.
-use Rattle.std.proofs.Common.{◌≡◌, ◌∙◌, refl, sym, ap, subst, ℕ, zero, suc, ◌<◌, ◌≤◌, Bool, true, false, ◌⊎◌, inl, inr, List, [], ◌∷◌, ◌++◌, length, length-append, append_assoc, ◌-◌, arith, Option, Some, None, Ok, Err, cond}
+use Rattle.std.proofs.Common.{◌≡◌, ◌∙◌, refl, sym, ap, subst, ℕ, zero, suc, ◌<◌, ◌≤◌, Bool, true, false, List, [], ◌∷◌, ◌++◌, length, length-append, append_assoc, ◌-◌, arith, Option, Some, None, Ok, Err, cond}
 use Rattle.std.proofs.lemmas.List.{append-nil}
 use Rattle.std.proofs.Math.Nat.{sub-zero}
 use Rattle.c_ast.specs.declared.token.Token.{Token}
-use Rattle.c_ast.specs.declared.fault.Fault.{Fault}
 use Rattle.c_ast.specs.declared.fault.Fault.TheVariants.{Syntax, TooDeep}
 use Rattle.c_ast.specs.Cells.{Cell, tokens, Hot, Cold, none, less}
-use Rattle.c_parse_expr.specs.Reads.{Reads, Reader, ◌>>=◌, made, pair_of, climb, snoc, some_of, build, optional, list_if_any}
-use Rattle.c_parse_expr.proofs.Exact.{Kind, Exact, Sound, IsHot, Opens, both_with, two_exact, narrow, option_kind, option_exact, option_well, option_cells, option_stops, opens_left, opens_all, opens_hot, opens_spelled, hot_left, cold_append}
+use Rattle.c_parse_expr.specs.Reads.{Reads, Reader, ◌>>=◌, made, pair_of, climb, snoc, some_of, build, unless, list_if_any}
+use Rattle.c_parse_expr.proofs.Exact.{Kind, Exact, Sound, IsHot, Opens, both_with, two_exact, narrow, unless_kind, unless_exact, option_well, option_cells, unless_stops, opens_left, opens_all, opens_hot, opens_spelled, hot_left, cold_append}
 
 -- ---- none or more, each begun where a test says so; room bounds how many
 
@@ -351,15 +350,15 @@ if_any_well X [] = Unit {0}
 if_any_well X (s ∷ ss) = X.well (s ∷ ss)
 
 abbrev pub if_any_stops : {S : Type 0} → (List Token → Bool) → Kind (List S) → List S → List Token → Type 0
-if_any_stops test X [] rest = test rest ≡ false
+if_any_stops test X [] rest = test rest ≡ true
 if_any_stops test X (s ∷ ss) rest = X.stops (s ∷ ss) rest
 
 abbrev pub if_any_kind : {S : Type 0} → (List Token → Bool) → Kind (List S) → Kind (List S)
 if_any_kind test X = record { well = if_any_well X; cells = X.cells; stops = if_any_stops test X }
 
-module _ {S : Type 0} (test : List Token → Bool) (X : Kind (List S)) (empty : X.cells [] ≡ []) (never : X.well [] → ⊥) (begins : (t : List S) (ts : List Token) → X.well t → Opens (X.cells t) ts → test ts ≡ true) (ts : List Token) where
-  pub if_any_exact : (a : Reader (List S)) → (test ts ≡ true → Exact X ts (a ts)) → Exact (if_any_kind test X) ts (build list_if_any (optional test a) ts)
-  if_any_exact a x = narrow (option_kind test X) (if_any_kind test X) list_if_any ts fits spelled ends ended (λ l w m. back l w) _ (option_exact test X begins ts a x)
+module _ {S : Type 0} (test : List Token → Bool) (X : Kind (List S)) (empty : X.cells [] ≡ []) (never : X.well [] → ⊥) (begins : (t : List S) (ts : List Token) → X.well t → Opens (X.cells t) ts → test ts ≡ false) (ts : List Token) where
+  pub if_any_exact : (a : Reader (List S)) → (test ts ≡ false → Exact X ts (a ts)) → Exact (if_any_kind test X) ts (build list_if_any (unless test a) ts)
+  if_any_exact a x = narrow (unless_kind test X) (if_any_kind test X) list_if_any ts fits spelled ends ended (λ l w m. back l w) _ (unless_exact test X begins ts a x)
     where
       fits : (o : Option (List S)) → option_well X o → if_any_well X (list_if_any o)
       fits None w = tt
@@ -370,12 +369,12 @@ module _ {S : Type 0} (test : List Token → Bool) (X : Kind (List S)) (empty : 
       spelled None w = empty
       spelled (Some l) w = refl
 
-      ends : (o : Option (List S)) (rest : List Token) → option_well X o → option_stops test X o rest → if_any_stops test X (list_if_any o) rest
+      ends : (o : Option (List S)) (rest : List Token) → option_well X o → unless_stops test X o rest → if_any_stops test X (list_if_any o) rest
       ends None rest w h = h
       ends (Some []) rest w h = absurd (never w)
       ends (Some (s ∷ ss)) rest w h = h
 
-      ended : (o : Option (List S)) (rest : List Token) → option_well X o → if_any_stops test X (list_if_any o) rest → option_stops test X o rest
+      ended : (o : Option (List S)) (rest : List Token) → option_well X o → if_any_stops test X (list_if_any o) rest → unless_stops test X o rest
       ended None rest w h = h
       ended (Some []) rest w h = absurd (never w)
       ended (Some (s ∷ ss)) rest w h = h

@@ -1,10 +1,9 @@
 -- When reading is exact for a kind of trees, and that it is so for what readers are put together of.
-use Rattle.std.proofs.Common.{◌≡◌, ◌∙◌, refl, sym, ap, subst, ℕ, zero, suc, Bool, true, false, ◌⊎◌, inl, inr, List, [], ◌∷◌, ◌++◌, append_assoc, Option, Some, None, Ok, Err, cond, arith}
+use Rattle.std.proofs.Common.{◌≡◌, ◌∙◌, refl, sym, ap, subst, Bool, true, false, ◌⊎◌, inl, inr, List, [], ◌∷◌, ◌++◌, append_assoc, Option, Some, None, Ok, Err, cond}
 use Rattle.c_ast.specs.declared.token.Token.{Token}
-use Rattle.c_ast.specs.declared.fault.Fault.{Fault}
 use Rattle.c_ast.specs.declared.fault.Fault.TheVariants.{Syntax, TooDeep}
 use Rattle.c_ast.specs.Cells.{Cell, tokens, Hot, Cold}
-use Rattle.c_parse_expr.specs.Reads.{Reads, Reader, ◌>>=◌, made, pair_of, one, one_of, at_limit, limit_fault, optional, choose, build, give}
+use Rattle.c_parse_expr.specs.Reads.{Reads, Reader, ◌>>=◌, made, pair_of, one, one_of, at_limit, limit_fault, optional, unless, choose, build, give}
 
 -- a kind of trees: which there are, how each is spelled, and before what a reader of it stops
 pub record Kind (T : Type 0) : Type 1 where
@@ -363,6 +362,45 @@ module _ {T : Type 0} (test : List Token → Bool) (X : Kind T) (begins : (t : T
           cool n (Some t) w h = n (t, w, h)
 
           sounds : (r : Reads T) → Sound X ts r → Sound (option_kind test X) ts (made Some r)
+          sounds (Ok p) h = (h.0, h.1, h.2, λ k. cool h.3 k.0 k.1 k.2)
+          sounds (Err Syntax) h = λ k. cool h k.0 k.1 k.2
+          sounds (Err TooDeep) h = (Some h.0, h.1, h.2)
+
+-- a tree that is absent where a test says so
+abbrev pub unless_stops : {T : Type 0} → (List Token → Bool) → Kind T → Option T → List Token → Type 0
+unless_stops test X None rest = test rest ≡ true
+unless_stops test X (Some t) rest = X.stops t rest
+
+abbrev pub unless_kind : {T : Type 0} → (List Token → Bool) → Kind T → Kind (Option T)
+unless_kind test X = record { well = option_well X; cells = option_cells X; stops = unless_stops test X }
+
+module _ {T : Type 0} (test : List Token → Bool) (X : Kind T) (begins : (t : T) (ts : List Token) → X.well t → Opens (X.cells t) ts → test ts ≡ false) (ts : List Token) where
+  pub unless_exact : (a : Reader T) → (test ts ≡ false → Exact X ts (a ts)) → Exact (unless_kind test X) ts (unless test a ts)
+  unless_exact a x = choose_exact (unless_kind test X) ts test (give None) (build Some a) absent there
+    where
+      absent : test ts ≡ true → Exact (unless_kind test X) ts (Ok (None, ts))
+      absent e = record { only = onlies; sound = (tt, refl, e, λ h. cool h.0 h.1 h.2) }
+        where
+          onlies : (o : Option T) (rest : List Token) → option_well X o → ts ≡ tokens (option_cells X o) ++ rest → unless_stops test X o rest → Cold (option_cells X o) → ◌≡◌ {A = Reads (Option T)} (Ok (None, ts)) (Ok (o, rest))
+          onlies None rest w f s c = ap (λ x. Ok (None, x)) f
+          onlies (Some t) rest w f s c = absurd (let h = begins t ts w (opens_spelled (X.cells t) ts rest f) in cc)
+
+          cool : (o : Option T) → option_well X o → Hot (option_cells X o) ts → ⊥
+          cool None w h = h
+          cool (Some t) w h = let k = begins t ts w (opens_hot (X.cells t) ts h) in cc
+
+      there : test ts ≡ false → Exact (unless_kind test X) ts (made Some (a ts))
+      there e = record { only = onlies; sound = sounds (a ts) (x e).sound }
+        where
+          onlies : (o : Option T) (rest : List Token) → option_well X o → ts ≡ tokens (option_cells X o) ++ rest → unless_stops test X o rest → Cold (option_cells X o) → made Some (a ts) ≡ Ok (o, rest)
+          onlies None rest w f s c = absurd (let h : test ts ≡ true = ap test f ∙ s in cc)
+          onlies (Some t) rest w f s c = ap (made Some) ((x e).only t rest w f s c)
+
+          cool : (IsHot X ts → ⊥) → (o : Option T) → option_well X o → Hot (option_cells X o) ts → ⊥
+          cool n None w h = h
+          cool n (Some t) w h = n (t, w, h)
+
+          sounds : (r : Reads T) → Sound X ts r → Sound (unless_kind test X) ts (made Some r)
           sounds (Ok p) h = (h.0, h.1, h.2, λ k. cool h.3 k.0 k.1 k.2)
           sounds (Err Syntax) h = λ k. cool h k.0 k.1 k.2
           sounds (Err TooDeep) h = (Some h.0, h.1, h.2)

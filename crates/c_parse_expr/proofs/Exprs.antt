@@ -1,5 +1,5 @@
 -- Reading an expression is exact.
-use Rattle.std.proofs.Common.{◌≡◌, ◌≢◌, ◌∙◌, refl, sym, ap, subst, ℕ, zero, suc, ◌-◌, ◌<◌, ◌≤◌, Bool, true, false, ◌⊎◌, inl, inr, List, [], ◌∷◌, ◌++◌, Option, Some, None, Ok, Err, cond, nat_eq, arith}
+use Rattle.std.proofs.Common.{◌≡◌, ◌≢◌, ◌∙◌, refl, sym, ap, subst, ℕ, zero, suc, ◌-◌, ◌<◌, ◌≤◌, Bool, true, false, ◌⊎◌, inl, inr, List, [], ◌∷◌, ◌++◌, Option, Some, None, cond, nat_eq, arith}
 use Rattle.std.proofs.lemmas.Bool.Decides.{nat_tests}
 use Rattle.std.proofs.lemmas.List.{append-nil}
 use Rattle.std.specs.Prelude.{◌||◌, ◌&&◌}
@@ -9,7 +9,6 @@ use Rattle.c_ast.specs.declared.token.Number.{Number}
 use Rattle.c_ast.specs.declared.token.NumberKind.TheVariants as kind_of_number
 use Rattle.c_ast.specs.declared.token.Mark.{Mark}
 use Rattle.c_ast.specs.declared.token.Mark.TheVariants as m
-use Rattle.c_ast.specs.declared.token.Keyword.{Keyword}
 use Rattle.c_ast.specs.declared.token.Keyword.TheVariants as k
 use Rattle.c_ast.specs.declared.types.BaseType.TheVariants as base
 use Rattle.c_ast.specs.declared.types.TypeName.{TypeName}
@@ -20,12 +19,12 @@ use Rattle.c_ast.specs.declared.expr.UnaryOperator.TheVariants as unary_operator
 use Rattle.c_ast.specs.declared.expr.BinaryOperator.{BinaryOperator}
 use Rattle.c_ast.specs.Trees.{Text, Expression, Num, Char, Var, Paren, Size, At, Part, Prefix, Convert, Op, Cond}
 use Rattle.c_ast.specs.Cells.{Cell, tokens, Hot, Cold, none, less}
-use Rattle.c_ast.specs.Grammar.{limit, type_cells, cells, rank, steps, links, IsExpression, access_mark, unary_mark, binary_mark, tier, level}
-use Rattle.c_parse_expr.specs.Reads.{Reads, Reader, made, one, climb, build, optional, choose, at_limit, ◌⊳◌}
+use Rattle.c_ast.specs.Grammar.{limit, type_cells, cells, rank, steps, links, IsExpression, access_mark, unary_mark, binary_mark, level}
+use Rattle.c_parse_expr.specs.Reads.{Reader, one, at_limit}
 use Rattle.c_parse_expr.specs.Reading
 use Rattle.c_parse_expr.specs.Reading.{is_mark, same_mark, is_keyword, same_keyword, sees, sees_keyword, sees_one, is_some, expect, name, pick_atom, atom, pick_access, pick_unary, operator_of, of_level, pick_operator, type_name, begins_type, group, size_of, prim, Step, Within, Of, join_step, index, member, more_steps, step, postfix, more_links, link, join_link, chain, branches, branches_if_any, conditional, whole, begins, sees_cast, prefixed, cast, unary_by, unary, expr, levels}
-use Rattle.c_parse_expr.proofs.Exact.{Kind, Exact, IsHot, Opens, Heads, Leads, Glue, both, both_keep, keep_stops, seq, seq_keep, narrow, widen, choose_exact, option_kind, option_exact, option_well, option_cells, option_stops, one_kind, one_exact, limit_exact, opens_heads, opens_left, leads_left, leads_opens, leads_hot, hot_left}
-use Rattle.c_parse_expr.proofs.Chains.{row, all_well, many_kind, many, many_exact, chain_exact, Parts, one_part, last_part}
+use Rattle.c_parse_expr.proofs.Exact.{Kind, Exact, IsHot, Opens, Heads, Leads, Glue, both, both_keep, keep_stops, seq, seq_keep, narrow, widen, choose_exact, option_kind, option_exact, one_kind, one_exact, limit_exact, opens_heads, opens_left, leads_left, leads_opens, leads_hot}
+use Rattle.c_parse_expr.proofs.Chains.{many_kind, many, many_exact, chain_exact, Parts, one_part, last_part}
 use Rattle.c_parse_expr.proofs.Sorts.{token_opens, mark_is, mark_self, mark_kind, keyword_kind, expect_exact, expect_keyword_exact, name_kind, name_exact, at_head, opened, sees_heads, sees_keyword_heads, is_some_is, grip_of, grip, heads_grip, more_steps_grip, question_grip, links_grip, before_mark, operator_of_mark, operator_grip, level_small, operator_from, eq_test, of_level_some, loose}
 use Rattle.c_parse_expr.proofs.TypeNames.{type_kind, type_exact, type_ends, type_opens, base_lead, base_begins}
 
@@ -96,13 +95,13 @@ type_before : (n : ℕ) (t : TypeName) (ts : List Token) → Heads (token.Mark m
 unfolding same_mark same_keyword
 type_before n t ts h = type_ends n t ts (at_head (sees m.Star) (token.Mark m.RightParen) ts h false (λ rest. refl)) (at_head Reading.more_unsigned (token.Mark m.RightParen) ts h false (λ rest. refl))
 
-zero_number : Number
+pub zero_number : Number
 zero_number = record { value = 0; kind = kind_of_number.Int }
 
-int_type : TypeName
+pub int_type : TypeName
 int_type = record { base = base.Int; stars = 0 }
 
-some_expression : (n room : ℕ) → (t : Expression) × (kind n room).well t
+pub some_expression : (n room : ℕ) → (t : Expression) × (kind n room).well t
 some_expression n room = (Num zero_number, (tt, omega arith))
 
 -- ---- what stands between a postfix and a name

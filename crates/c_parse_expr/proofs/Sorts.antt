@@ -1,5 +1,5 @@
 -- Single tokens, and how the first token tells trees apart.
-use Rattle.std.proofs.Common.{◌≡◌, ◌∙◌, refl, sym, ap, subst, ℕ, suc, ◌<◌, ◌≤◌, Bool, true, false, ◌⊎◌, inl, inr, List, [], ◌∷◌, Option, Some, None, cond, nat_eq, arith}
+use Rattle.std.proofs.Common.{◌≡◌, ◌∙◌, refl, sym, ap, ℕ, ◌<◌, ◌≤◌, Bool, true, false, ◌⊎◌, inl, inr, List, [], ◌∷◌, Option, Some, None, cond, nat_eq, arith}
 use Rattle.std.specs.Prelude.{◌||◌}
 use Rattle.std.proofs.lemmas.Bool.Decides.{nat_tests}
 use denote.Enum.Bare.{same_true, true_same}
@@ -9,15 +9,13 @@ use Rattle.c_ast.specs.declared.token.Mark.{Mark}
 use Rattle.c_ast.specs.declared.token.Mark.TheVariants as m
 use Rattle.c_ast.specs.contracts.token.Mark as mark_enum
 use Rattle.c_ast.specs.declared.token.Keyword.{Keyword}
-use Rattle.c_ast.specs.declared.token.Keyword.TheVariants as k
 use Rattle.c_ast.specs.contracts.token.Keyword as keyword_enum
 use Rattle.c_ast.specs.declared.expr.BinaryOperator.{BinaryOperator}
 use Rattle.c_ast.specs.declared.expr.BinaryOperator.TheVariants as binary
 use Rattle.c_ast.specs.Trees.{Text}
 use Rattle.c_ast.specs.Cells.{Cell}
-use Rattle.c_ast.specs.Grammar.{tier, level, binary_mark}
-use Rattle.c_parse_expr.specs.Reads.{one}
-use Rattle.c_parse_expr.specs.Reading.{is_mark, same_mark, is_keyword, same_keyword, sees, sees_keyword, sees_one, is_some, picked, pick_mark, pick_keyword, expect, expect_keyword, pick_name, name, operator_of, of_level, pick_operator, pick_access, more_steps, more_links}
+use Rattle.c_ast.specs.Grammar.{level, binary_mark}
+use Rattle.c_parse_expr.specs.Reading.{is_mark, same_mark, is_keyword, same_keyword, sees, sees_keyword, is_some, picked, pick_mark, pick_keyword, expect, expect_keyword, pick_name, name, operator_of, of_level, pick_access, more_steps, more_links}
 use Rattle.c_parse_expr.proofs.Exact.{Kind, Exact, Opens, Heads, opens_heads, one_kind, one_exact}
 
 -- ---- one token

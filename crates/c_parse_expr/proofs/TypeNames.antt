@@ -1,9 +1,7 @@
 -- Reading a type is exact.
-use Rattle.std.proofs.Common.{◌≡◌, ◌≢◌, ◌∙◌, refl, sym, ap, subst, ℕ, zero, suc, Bool, true, false, ◌⊎◌, inl, inr, List, [], ◌∷◌, ◌++◌, Option, Some, None, Ok, Err, cond, arith}
-use Rattle.std.specs.Prelude.{◌||◌}
+use Rattle.std.proofs.Common.{◌≡◌, ◌∙◌, refl, sym, ap, subst, ℕ, zero, suc, Bool, true, false, inl, List, [], ◌∷◌, ◌++◌, Option, Some, None, cond, arith}
 use Rattle.c_ast.specs.declared.token.Token.{Token}
 use Rattle.c_ast.specs.declared.token.Token.TheVariants as token
-use Rattle.c_ast.specs.declared.token.Mark.{Mark}
 use Rattle.c_ast.specs.declared.token.Mark.TheVariants as m
 use Rattle.c_ast.specs.declared.token.Keyword.{Keyword}
 use Rattle.c_ast.specs.declared.token.Keyword.TheVariants as k
@@ -17,19 +15,13 @@ use Rattle.c_ast.specs.declared.types.TypeName.{TypeName}
 use Rattle.c_ast.specs.Trees.{Text}
 use Rattle.c_ast.specs.Cells.{Cell, none, less, link}
 use Rattle.c_ast.specs.Grammar.{star_limit, unsigned_cells, tag_keyword, base_cells, star_cells, type_cells}
-use Rattle.c_parse_expr.specs.Reads.{Reads, Reader, made, one, climb, build, ◌⊳◌}
-use Rattle.c_parse_expr.specs.Reading.{is_mark, same_mark, is_keyword, same_keyword, sees, sees_keyword, sees_one, is_some, expect, pick_unsigned, pick_tag, pick_base, long_long, unsigned_word, more_unsigned, plain_if_none, unsigned_rest, unsigned_type, tagged, base_type, one_more, stars, type_of, type_name, begins_type}
-use Rattle.c_parse_expr.proofs.Exact.{Kind, Exact, IsHot, Opens, Heads, Leads, both, both_keep, keep_stops, seq, seq_keep, narrow, widen, choose_exact, option_kind, option_exact, option_well, option_cells, option_stops, one_kind, one_exact, opens_heads, leads_left, leads_opens}
+use Rattle.c_parse_expr.specs.Reads.{made, one, build}
+use Rattle.c_parse_expr.specs.Reading.{same_mark, same_keyword, sees, sees_keyword, sees_one, expect, pick_unsigned, pick_tag, pick_base, long_long, unsigned_word, more_unsigned, plain_if_none, unsigned_rest, unsigned_type, tagged, base_type, one_more, stars, type_of, type_name, begins_type}
+use Rattle.c_parse_expr.proofs.Exact.{Kind, Exact, IsHot, Opens, Heads, Leads, both, both_keep, seq, seq_keep, narrow, widen, choose_exact, option_kind, option_exact, option_well, option_cells, option_stops, one_kind, one_exact, leads_left, leads_opens}
 use Rattle.c_parse_expr.proofs.Chains.{row, all_well, many_kind, many, many_exact, folded, climb_is_many}
-use Rattle.c_parse_expr.proofs.Sorts.{mark_kind, keyword_kind, expect_exact, expect_keyword_exact, name_kind, name_exact, at_head, opened, sees_heads, is_some_is}
+use Rattle.c_parse_expr.proofs.Sorts.{keyword_kind, expect_exact, expect_keyword_exact, name_kind, name_exact, at_head, opened, sees_heads}
 
 -- ---- unsigned types
-
-unsigned_from : (x : Keyword) (a : UnsignedType) → pick_unsigned (token.Keyword x) ≡ Some a → (a ≢ u.Plain) × (a ≢ u.LongLong) × ((n : ℕ) → unsigned_cells a (suc n) ≡ (token.Keyword x, false) ∷ [])
-unsigned_from k.Char a e = let is : u.Char ≡ a = cc in (λ f. cc, λ f. cc, λ n. subst (λ a. unsigned_cells a (suc n) ≡ (token.Keyword k.Char, false) ∷ []) is refl)
-unsigned_from k.Short a e = let is : u.Short ≡ a = cc in (λ f. cc, λ f. cc, λ n. subst (λ a. unsigned_cells a (suc n) ≡ (token.Keyword k.Short, false) ∷ []) is refl)
-unsigned_from k.Int a e = let is : u.Int ≡ a = cc in (λ f. cc, λ f. cc, λ n. subst (λ a. unsigned_cells a (suc n) ≡ (token.Keyword k.Int, false) ∷ []) is refl)
-unsigned_from _ a e = cc
 
 abbrev IsNarrow : UnsignedType → Type 0
 IsNarrow u.Char = Unit {0}
@@ -207,14 +199,14 @@ base_sorted (base.Unsigned w) rest = refl
 base_sorted (base.Tagged tag.Struct x) rest = refl
 base_sorted (base.Tagged tag.Union x) rest = refl
 
-abbrev IsSingle : BaseType → Type 0
+abbrev pub IsSingle : BaseType → Type 0
 IsSingle base.Void = Unit {0}
 IsSingle base.Char = Unit {0}
 IsSingle base.Short = Unit {0}
 IsSingle base.Int = Unit {0}
 IsSingle _ = ⊥
 
-tag_from : (t : Token) (a : TagKind) → pick_tag t ≡ Some a → Unit {0} × (t ≡ token.Keyword (tag_keyword a))
+pub tag_from : (t : Token) (a : TagKind) → pick_tag t ≡ Some a → Unit {0} × (t ≡ token.Keyword (tag_keyword a))
 tag_from (token.Keyword x) a e = at x a e
   where
     at : (x : Keyword) (a : TagKind) → pick_tag (token.Keyword x) ≡ Some a → Unit {0} × (token.Keyword x ≡ token.Keyword (tag_keyword a))
@@ -238,8 +230,24 @@ tag_kind = one_kind (λ a. Unit {0}) (λ a. token.Keyword (tag_keyword a))
 pub tag_exact : (ts : List Token) → Exact tag_kind ts (one pick_tag ts)
 tag_exact ts = one_exact (λ a. Unit {0}) (λ a. token.Keyword (tag_keyword a)) pick_tag (λ a w. tag_picked a) tag_from ts
 
+base_at : (x : Keyword) (a : BaseType) → pick_base (token.Keyword x) ≡ Some a → IsSingle a × (token.Keyword x ≡ base_lead a)
+base_at k.Void a e = let is : base.Void ≡ a = cc in subst (λ a. IsSingle a × (token.Keyword k.Void ≡ base_lead a)) is (tt, refl)
+base_at k.Char a e = let is : base.Char ≡ a = cc in subst (λ a. IsSingle a × (token.Keyword k.Char ≡ base_lead a)) is (tt, refl)
+base_at k.Short a e = let is : base.Short ≡ a = cc in subst (λ a. IsSingle a × (token.Keyword k.Short ≡ base_lead a)) is (tt, refl)
+base_at k.Int a e = let is : base.Int ≡ a = cc in subst (λ a. IsSingle a × (token.Keyword k.Int ≡ base_lead a)) is (tt, refl)
+base_at _ a e = cc
+
+pub base_from : (t : Token) (a : BaseType) → pick_base t ≡ Some a → IsSingle a × (t ≡ base_lead a)
+base_from (token.Keyword x) a e = base_at x a e
+base_from (token.Identifier x) a e = cc
+base_from (token.Mark x) a e = cc
+base_from (token.Reserved x) a e = cc
+base_from (token.Number x) a e = cc
+base_from (token.Character x) a e = cc
+base_from (token.Text x) a e = cc
+
 single_exact : (ts : List Token) → Exact (one_kind IsSingle base_lead) ts (one pick_base ts)
-single_exact ts = one_exact IsSingle base_lead pick_base picked from ts
+single_exact ts = one_exact IsSingle base_lead pick_base picked base_from ts
   where
     picked : (b : BaseType) → IsSingle b → pick_base (base_lead b) ≡ Some b
     picked base.Void w = refl
@@ -249,22 +257,6 @@ single_exact ts = one_exact IsSingle base_lead pick_base picked from ts
     picked base.LongLong w = absurd w
     picked (base.Unsigned a) w = absurd w
     picked (base.Tagged t x) w = absurd w
-
-    at : (x : Keyword) (a : BaseType) → pick_base (token.Keyword x) ≡ Some a → IsSingle a × (token.Keyword x ≡ base_lead a)
-    at k.Void a e = let is : base.Void ≡ a = cc in subst (λ a. IsSingle a × (token.Keyword k.Void ≡ base_lead a)) is (tt, refl)
-    at k.Char a e = let is : base.Char ≡ a = cc in subst (λ a. IsSingle a × (token.Keyword k.Char ≡ base_lead a)) is (tt, refl)
-    at k.Short a e = let is : base.Short ≡ a = cc in subst (λ a. IsSingle a × (token.Keyword k.Short ≡ base_lead a)) is (tt, refl)
-    at k.Int a e = let is : base.Int ≡ a = cc in subst (λ a. IsSingle a × (token.Keyword k.Int ≡ base_lead a)) is (tt, refl)
-    at _ a e = cc
-
-    from : (t : Token) (a : BaseType) → pick_base t ≡ Some a → IsSingle a × (t ≡ base_lead a)
-    from (token.Keyword x) a e = at x a e
-    from (token.Identifier x) a e = cc
-    from (token.Mark x) a e = cc
-    from (token.Reserved x) a e = cc
-    from (token.Number x) a e = cc
-    from (token.Character x) a e = cc
-    from (token.Text x) a e = cc
 
 -- a plain `unsigned` goes on as far as it can
 abbrev pub base_stops : BaseType → List Token → Type 0

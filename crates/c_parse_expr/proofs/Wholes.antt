@@ -1,5 +1,5 @@
 -- Reading a whole expression, and why a text has one at most.
-use Rattle.std.proofs.Common.{◌≡◌, ◌≢◌, ◌∙◌, ◌↔◌, refl, sym, ap, subst, ℕ, suc, ◌<◌, inl, inr, List, [], ◌∷◌, ◌++◌, Result, Ok, Err, true, false, length, nat_eq, arith}
+use Rattle.std.proofs.Common.{◌≡◌, ◌≢◌, ◌∙◌, ◌↔◌, refl, sym, ap, subst, ℕ, suc, inl, inr, List, [], ◌∷◌, ◌++◌, Result, Ok, Err, true, false, length, nat_eq, arith}
 use Rattle.std.specs.Prelude.{IfOk}
 use Rattle.std.proofs.lemmas.List.{append-nil}
 use Rattle.std.proofs.lemmas.Bool.Decides.{nat_tests}
@@ -8,8 +8,8 @@ use Rattle.c_ast.specs.declared.fault.Fault.{Fault}
 use Rattle.c_ast.specs.declared.fault.Fault.TheVariants.{Syntax, TooDeep}
 use Rattle.c_ast.specs.declared.expr.Expr.{Expr}
 use Rattle.c_ast.specs.Trees.{Expression, expression}
-use Rattle.c_ast.specs.Cells.{tokens, Hot, Cold}
-use Rattle.c_ast.specs.Grammar.{limit, cells, IsExpression}
+use Rattle.c_ast.specs.Cells.{tokens, Hot}
+use Rattle.c_ast.specs.Grammar.{limit, cells}
 use Rattle.c_ast.specs.Program.{IsSpelledExpression, IsDeepExpression, IsRefusedExpression}
 use Rattle.c_parse_expr.specs.declared.error.ReadError.{ReadError}
 use Rattle.c_parse_expr.specs.declared.error.ReadError.TheVariants as read
@@ -19,7 +19,6 @@ use Rattle.c_parse_expr.specs.Reads.{Fails}
 use Rattle.c_parse_expr.specs.Reading.{expr}
 use Rattle.c_parse_expr.specs.Answers.{located_error, RefusesExpression, OnlyExpression, OnlyRefusedExpression}
 use Rattle.c_parse_expr.proofs.Exact.{Sound, cold_or_hot}
-use Rattle.c_parse_expr.proofs.Sorts.{grip}
 use Rattle.c_parse_expr.proofs.Exprs.{kind, rank_small, expr_exact}
 
 known : (text : List Token) (e : Expression) (rest : List Token) → expr limit text ≡ Ok (e, rest) → Sound (kind 12 limit) text (Ok (e, rest))

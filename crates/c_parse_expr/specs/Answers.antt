@@ -5,7 +5,7 @@ use Rattle.c_ast.specs.declared.fault.Fault.{Fault}
 use Rattle.c_ast.specs.declared.fault.Fault.TheVariants.{Syntax, TooDeep}
 use Rattle.c_ast.specs.declared.expr.Expr.{Expr}
 use Rattle.c_ast.specs.Trees.{Expression, expression}
-use Rattle.c_ast.specs.Program.{IsSpelledExpression, IsRefusedExpression}
+use Rattle.c_ast.specs.Program.{IsRefusedExpression}
 use Rattle.c_parse_expr.specs.declared.error.ReadError.{ReadError}
 use Rattle.c_parse_expr.specs.declared.error.ReadError.TheVariants as read
 use Rattle.c_parse_expr.specs.declared.error.ParseError.{ParseError}

@@ -1,9 +1,8 @@
 -- Reading types and expressions from left to right, one or two tokens ahead: what each function of src/ gives.
-use Rattle.std.specs.Prelude.{◌≡◌, ℕ, zero, suc, Bool, true, false, cond, ◌||◌, ◌&&◌, nat_eq, List, [], ◌∷◌, Option, Some, None, Result, Ok, Err}
+use Rattle.std.specs.Prelude.{ℕ, zero, suc, Bool, true, false, cond, ◌||◌, ◌&&◌, nat_eq, List, [], ◌∷◌, Option, Some, None}
 use denote.Enum.Bare.{sameb}
 use Rattle.c_ast.specs.declared.token.Token.{Token}
 use Rattle.c_ast.specs.declared.token.Token.TheVariants as token
-use Rattle.c_ast.specs.declared.token.Number.{Number}
 use Rattle.c_ast.specs.declared.token.Mark.{Mark}
 use Rattle.c_ast.specs.declared.token.Mark.TheVariants as m
 use Rattle.c_ast.specs.contracts.token.Mark as mark_enum
@@ -24,8 +23,8 @@ use Rattle.c_ast.specs.declared.expr.UnaryOperator.TheVariants as unary_operator
 use Rattle.c_ast.specs.declared.expr.BinaryOperator.{BinaryOperator}
 use Rattle.c_ast.specs.declared.expr.BinaryOperator.TheVariants as binary
 use Rattle.c_ast.specs.Trees.{Text, Expression, Num, Char, Var, Paren, Size, At, Part, Prefix, Convert, Op, Cond}
-use Rattle.c_ast.specs.Grammar.{limit, star_limit, tier, level}
-use Rattle.c_parse_expr.specs.Reads.{Reads, Reader, ◌>>=◌, build, ◌⊳◌, give, choose, optional, one, climb, at_limit}
+use Rattle.c_ast.specs.Grammar.{limit, star_limit, level}
+use Rattle.c_parse_expr.specs.Reads.{Reader, ◌>>=◌, build, ◌⊳◌, choose, optional, one, climb, at_limit}
 
 -- ---- one token
 

@@ -47,6 +47,10 @@ choose test a b ts = cond (test ts) (a ts) (b ts)
 abbrev pub optional : {A : Type 0} → (List Token → Bool) → Reader A → Reader (Option A)
 optional test a = choose test (build Some a) (give None)
 
+-- none where a test says so
+abbrev pub unless : {A : Type 0} → (List Token → Bool) → Reader A → Reader (Option A)
+unless test a = choose test (give None) (build Some a)
+
 abbrev pub one_of : {A : Type 0} → Option A → List Token → Reads A
 one_of None ts = Err Syntax
 one_of (Some a) ts = Ok (a, ts)

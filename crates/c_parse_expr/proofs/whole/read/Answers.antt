@@ -1,6 +1,5 @@
-use Rattle.std.proofs.Common.{◌≡◌, ◌∙◌, refl, sym, ap}
+use Rattle.std.proofs.Common.{◌∙◌, refl, sym, ap}
 use Rattle.c_ast.specs.Trees.{expression}
-use Rattle.c_ast.specs.Program.{IsSpelledExpression}
 use Rattle.c_parse_expr.proofs.Wholes.{spelled, left_over, refuses, empty, not_empty}
 use Rattle.c_parse_expr.proofs.whole.read.Goals as goal
 

@@ -1,0 +1,5 @@
+pub mod Parameters
+pub mod Statements
+pub mod Declarations
+pub mod Views
+pub mod Answers
