@@ -5,3 +5,7 @@ mod ReadingLemmas
 mod PlanLemmas
 mod ScheduleLemmas
 mod LoadingLemmas
+mod TokenLemmas
+mod PlaceLemmas
+mod GrammarLemmas
+mod ActLemmas

@@ -12,3 +12,4 @@ pub mod Parts
 pub mod Pushed
 pub mod Loading
 pub mod SetupData
+pub mod Source
