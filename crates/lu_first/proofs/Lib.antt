@@ -9,3 +9,4 @@ mod TokenLemmas
 mod PlaceLemmas
 mod GrammarLemmas
 mod ActLemmas
+mod SourceLemmas

@@ -35,7 +35,7 @@ globals-refused n names ts rest Unbuilt e none = globals-none n names ts rest e 
 globals-refused n names ts rest Memory e none = none
 
 -- one declaration more
-globals-step : (n : ℕ) (names ts rest names' rest' : List (List ℕ)) → expected (codes "int") ts ≡ Some rest
+pub globals-step : (n : ℕ) (names ts rest names' rest' : List (List ℕ)) → expected (codes "int") ts ≡ Some rest
     → front_declaration names rest ≡ Some (names', rest') → front_globals (suc n) names ts ≡ front_globals n names' rest'
 unfolding front_globals
 globals-step n names ts rest names' rest' e d =
@@ -78,7 +78,7 @@ pub acts-over : (names ts : List (List ℕ)) → expected (codes "}") ts ≡ Non
 unfolding front_acts
 acts-over names ts e = ap (λ o. ended_or o None) e
 
-acts-step : (names : List (List ℕ)) (n : ℕ) (ts : List (List ℕ)) → expected (codes "}") ts ≡ None
+pub acts-step : (names : List (List ℕ)) (n : ℕ) (ts : List (List ℕ)) → expected (codes "}") ts ≡ None
     → front_acts names (suc n) ts ≡ then_option (front_act names ts) (λ a. then_option (front_acts names n a.1) (λ r. Some (a.0 ∷ r.0, r.1)))
 unfolding front_acts
 acts-step names n ts e = ap (λ o. ended_or o (then_option (front_act names ts) (λ a. then_option (front_acts names n a.1) (λ r. Some (a.0 ∷ r.0, r.1))))) e
