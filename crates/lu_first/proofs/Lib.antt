@@ -10,3 +10,5 @@ mod PlaceLemmas
 mod GrammarLemmas
 mod ActLemmas
 mod SourceLemmas
+mod PlanReading
+mod SetupLemmas

@@ -72,7 +72,7 @@ abbrev pub starts_with_digit : List ℕ → Bool
 starts_with_digit [] = false
 starts_with_digit (b ∷ bs) = is_ascii_digit b
 
-decimal-digits : (n : ℕ) → n < 2 ^ 64 → all_ascii_digits (decimal n) ≡ true
+pub decimal-digits : (n : ℕ) → n < 2 ^ 64 → all_ascii_digits (decimal n) ≡ true
 decimal-digits n h = digits_decimal own n h
 
 -- a nonempty text of digits begins with one

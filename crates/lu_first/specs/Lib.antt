@@ -13,3 +13,4 @@ pub mod Pushed
 pub mod Loading
 pub mod SetupData
 pub mod Source
+pub mod Setup

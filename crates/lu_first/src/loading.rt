@@ -5,6 +5,7 @@ ghost use Rattle.lu_first.specs.declared.loading.Refusal.TheVariants as OfText;
 ghost use Rattle.lu_first.specs.declared.loading.LoadError.TheVariants as OfFiles;
 ghost use Rattle.lu_first.specs.Loading.{text_at, program_at, events_at, setup_at, IsLoadRefusal};
 ghost use Rattle.lu_first.specs.SetupData.{setup_data};
+ghost use Rattle.lu_first.specs.Setup.{LoadAnswers};
 ghost use Rattle.lu_first.specs.Parts.{parts_of, setup_with};
 ghost use Rattle.lu_first.specs.Read.{IsProgram};
 ghost use Rattle.lu_first.specs.Faults.{load_error_of_refusal, load_error_of_fault};
@@ -95,9 +96,17 @@ impl From<ShelfFault> for LoadError {
     }
 }
 
-/// Reads the plan of that name, its source and its schedule, in this order.
-#[tactic(auto, unfolding(crate::specs::Loading::setup_at))]
+/// Reads the plan of that name, its source and its schedule, in this order. No file is read after one that is refused.
 pub fn load<S: Shelf>(alloc: Global, name: &str, shelf: &mut S) -> Result<Setup, LoadError>
+    ensures kept { S.holds shelf.new ≡ S.holds shelf.old }
+    ensures cause { IsCaused LoadError.ReadFault (S.faults shelf.old) (S.faults shelf.new) result }
+    ensures answer { IfSome (S.holds shelf.old) (λ files. LoadAnswers files name.now result) }
+{
+    read_setup(alloc, name, shelf)
+}
+
+#[tactic(auto, unfolding(crate::specs::Loading::setup_at))]
+fn read_setup<S: Shelf>(alloc: Global, name: &str, shelf: &mut S) -> Result<Setup, LoadError>
     ensures kept { S.holds shelf.new ≡ S.holds shelf.old }
     ensures cause { IsCaused LoadError.ReadFault (S.faults shelf.old) (S.faults shelf.new) result }
     ensures answer { IfSome (S.holds shelf.old) (λ files. MatchResult result
