@@ -1,27 +1,20 @@
 -- The reader of whole acts and functions agrees with their grammar.
-use Rattle.std.proofs.Common.{◌≡◌, ◌<◌, ◌≤◌, ◌+◌, ℕ, zero, suc, ℤ, pos, negsuc, List, [], ◌∷◌, ◌++◌, length, slice_index_or, Bool, true, false, if◌then◌else◌, Option, Some, None, codes, refl, sym, ap, subst, ◌∙◌, inl, inr, arith}
-use Rattle.std.specs.Option.{option_map}
+use Rattle.std.proofs.Common.{◌≡◌, ◌≤◌, ℕ, zero, suc, pos, List, [], ◌∷◌, length, if◌then◌else◌, Option, Some, None, codes, refl, sym, ap, subst, ◌∙◌, inl, inr, arith}
 use Rattle.std.specs.Str.{bytes_eq}
-use Rattle.std.specs.Fmt.{decimal, signed_decimal}
 use Rattle.lu_spec.specs.Then.{then_option}
 use Rattle.lu_spec.proofs.ThenLemmas.{then_some}
-use Rattle.src_model.specs.First.{IsTargetWithin}
 use Rattle.src_model.specs.declared.first.Act.{Act}
 use Rattle.src_model.specs.declared.first.Act.TheVariants.{Set, Send}
 use Rattle.src_model.specs.declared.first.Target.{Target}
-use Rattle.src_model.specs.declared.first.Target.TheVariants as target
 use Rattle.src_model.specs.declared.first.Operand.{Operand}
 use Rattle.src_model.specs.declared.first.Operand.TheVariants as operand
 use Rattle.src_model.specs.declared.first.Op.{Op}
 use Rattle.src_model.specs.declared.first.Op.TheVariants.{Only, Plus, Minus}
-use Rattle.lu_first.specs.Names.{is_allowed, place_of}
-use Rattle.lu_first.specs.Number.{literal_of}
-use Rattle.lu_first.specs.Source.{operand_onto, target_onto, tail_onto, act_onto, acts_onto, head_onto, init_onto, handler_onto, IsLiteral, IsOperandWritten, IsSecondWritten, IsActWritten, AreActsWritten, AreNewNames}
-use Rattle.lu_first.specs.Reading.{expected, front_token, front_head, front_init, front_send, index_of, front_index, operand_field, front_field, found_or_number, named_operand, operand_from, front_operand, target_field, target_from, op_of, front_second, front_tail, assignment_from, front_act, ended_or, front_acts, front_handler}
-use Rattle.lu_first.proofs.TokenLemmas.{same-token, token-is, apart-by, apart-sym, expected-own, expected-other, expected-is, expect-some, token-some, if-token, decimal-start, literal-own, literal-is, index-own, index-is, allowed-start, allowed-apart, m_in-reserved, m_out-reserved, send-reserved, starts_with_digit}
-use Rattle.lu_first.proofs.PlaceLemmas.{place-is, place-own, place-none, allowed-at}
+use Rattle.lu_first.specs.Source.{operand_onto, target_onto, tail_onto, act_onto, acts_onto, IsOperandWritten, IsSecondWritten, IsActWritten, AreActsWritten, AreNewNames}
+use Rattle.lu_first.specs.Reading.{expected, front_send, front_operand, target_from, op_of, front_second, front_tail, assignment_from, front_act, ended_or, front_acts}
+use Rattle.lu_first.proofs.TokenLemmas.{expected-other, expected-is, expect-some, token-some, if-token, send-reserved}
 use Rattle.lu_first.proofs.ReadingLemmas.{acts-end, acts-step}
-use Rattle.lu_first.proofs.GrammarLemmas.{head-own, head-is, send-own, send-is, operand-own, operand-is, target-own, target-is, target-split, target-unlike, target_token, target_rest}
+use Rattle.lu_first.proofs.GrammarLemmas.{send-own, send-is, operand-own, operand-is, target-own, target-is, target-split, target-unlike, target_token, target_rest}
 
 -- ends of assignments
 abbrev IsTail : List (List ℕ) → List (List ℕ) → Op × Operand × List (List ℕ) → Type 0
@@ -36,29 +29,29 @@ second-is names token ts r e =
     let same : (op.0, b.0.0, c.0) ≡ r = cc in
     let operand = operand-is names ts b.0 b.1 in
     subst (λ (p : Op × Operand × List (List ℕ)). IsTail names (token ∷ ts) p) same
-        (elim (if-token token (codes "+") (Some Plus) (if bytes_eq token (codes "-") then Some Minus else None) op.0 op.1) [
-            inl plus ↦ (
-                let which : Plus ≡ op.0 = cc in
-                subst (λ o. IsTail names (token ∷ ts) (o, b.0.0, c.0)) which
-                    (ap (λ t. t ∷ ts) plus.0 ∙ ap (λ l. codes "+" ∷ l) (operand.0 ∙ ap (λ l. operand_onto names b.0.0 l) c.1), operand.1))
-            | inr other ↦ elim (if-token token (codes "-") (Some Minus) None op.0 other.1) [
-                inl minus ↦ (
-                    let which : Minus ≡ op.0 = cc in
-                    subst (λ o. IsTail names (token ∷ ts) (o, b.0.0, c.0)) which
-                        (ap (λ t. t ∷ ts) minus.0 ∙ ap (λ l. codes "-" ∷ l) (operand.0 ∙ ap (λ l. operand_onto names b.0.0 l) c.1), operand.1))
-                | inr none ↦ absurd (let wrong = none.1 in cc)
-            ]
-        ])
+    (elim (if-token token (codes "+") (Some Plus) (if bytes_eq token (codes "-") then Some Minus else None) op.0 op.1) [
+      | inl plus ↦ (
+          let which : Plus ≡ op.0 = cc in
+          subst (λ o. IsTail names (token ∷ ts) (o, b.0.0, c.0)) which
+          (ap (λ t. t ∷ ts) plus.0 ∙ ap (λ l. codes "+" ∷ l) (operand.0 ∙ ap (λ l. operand_onto names b.0.0 l) c.1), operand.1))
+      | inr other ↦ elim (if-token token (codes "-") (Some Minus) None op.0 other.1) [
+        | inl minus ↦ (
+            let which : Minus ≡ op.0 = cc in
+            subst (λ o. IsTail names (token ∷ ts) (o, b.0.0, c.0)) which
+            (ap (λ t. t ∷ ts) minus.0 ∙ ap (λ l. codes "-" ∷ l) (operand.0 ∙ ap (λ l. operand_onto names b.0.0 l) c.1), operand.1))
+        | inr none ↦ absurd (let wrong = none.1 in cc)
+      ]
+    ])
 
 tail-is : (names : List (List ℕ)) (ts : List (List ℕ)) (r : Op × Operand × List (List ℕ)) → front_tail names ts ≡ Some r → IsTail names ts r
 unfolding front_tail
 tail-is names ts r e =
     let a = token-some ts _ r e in
     elim (if-token a.0 (codes ";") (Some (Only, operand.Number (pos 0), a.1)) (front_second names a.0 a.1) r a.3) [
-        inl here ↦ (
-            let same : (Only, operand.Number (pos 0), a.1) ≡ r = cc in
-            subst (λ (p : Op × Operand × List (List ℕ)). IsTail names ts p) same (a.2 ∙ ap (λ t. t ∷ a.1) here.0, refl))
-        | inr more ↦ (let s = second-is names a.0 a.1 r more.1 in (a.2 ∙ s.0, s.1))
+      | inl here ↦ (
+          let same : (Only, operand.Number (pos 0), a.1) ≡ r = cc in
+          subst (λ (p : Op × Operand × List (List ℕ)). IsTail names ts p) same (a.2 ∙ ap (λ t. t ∷ a.1) here.0, refl))
+      | inr more ↦ (let s = second-is names a.0 a.1 r more.1 in (a.2 ∙ s.0, s.1))
     ]
 
 second-own : (names : List (List ℕ)) (op : Op) (token : List ℕ) (b : Operand) (rest : List (List ℕ)) → AreNewNames [] names → op_of token ≡ Some op
@@ -90,21 +83,22 @@ assignment-is names token ts r e =
     let target = target-is names token ts t.0 t.1 in
     let operand = operand-is names a.0 b.0 b.1 in
     let tail = tail-is names b.0.1 c.0 c.1 in
-    subst (λ (p : Act × List (List ℕ)). IsAct names (token ∷ ts) p) same
-        (target.0 ∙ ap (λ l. target_onto names t.0.0 l) (a.1 ∙ ap (λ l. codes "=" ∷ l) (operand.0 ∙ ap (λ l. operand_onto names b.0.0 l) tail.0)),
-            (target.1, operand.1, tail.1))
+    subst (λ (p : Act × List (List ℕ)). IsAct names (token ∷ ts) p) same (
+      target.0 ∙ ap (λ l. target_onto names t.0.0 l) (a.1 ∙ ap (λ l. codes "=" ∷ l) (operand.0 ∙ ap (λ l. operand_onto names b.0.0 l) tail.0)),
+      (target.1, operand.1, tail.1),
+    )
 
 act-is : (names : List (List ℕ)) (ts : List (List ℕ)) (r : Act × List (List ℕ)) → front_act names ts ≡ Some r → IsAct names ts r
 unfolding front_act
 act-is names ts r e =
     let a = token-some ts _ r e in
     elim (if-token a.0 (codes "send") (then_option (front_send a.1) (λ ts. Some (Send, ts))) (assignment_from names a.0 a.1) r a.3) [
-        inl here ↦ (
-            let rest = then_some (front_send a.1) (λ ts. Some (Send, ts)) r here.1 in
-            let same : (Send, rest.0) ≡ r = cc in
-            subst (λ (p : Act × List (List ℕ)). IsAct names ts p) same
-                (a.2 ∙ ap (λ t. t ∷ a.1) here.0 ∙ ap (λ l. codes "send" ∷ l) (send-is a.1 rest.0 rest.1), tt))
-        | inr more ↦ (let s = assignment-is names a.0 a.1 r more.1 in (a.2 ∙ s.0, s.1))
+      | inl here ↦ (
+          let rest = then_some (front_send a.1) (λ ts. Some (Send, ts)) r here.1 in
+          let same : (Send, rest.0) ≡ r = cc in
+          subst (λ (p : Act × List (List ℕ)). IsAct names ts p) same
+          (a.2 ∙ ap (λ t. t ∷ a.1) here.0 ∙ ap (λ l. codes "send" ∷ l) (send-is a.1 rest.0 rest.1), tt))
+      | inr more ↦ (let s = assignment-is names a.0 a.1 r more.1 in (a.2 ∙ s.0, s.1))
     ]
 
 assignment-own : (names : List (List ℕ)) (t : Target) (a : Operand) (op : Op) (b : Operand) (rest : List (List ℕ)) → AreNewNames [] names
@@ -113,7 +107,7 @@ assignment-own : (names : List (List ℕ)) (t : Target) (a : Operand) (op : Op) 
 unfolding assignment_from
 assignment-own names t a op b rest new h =
     ap (λ p. then_option p (λ t. then_option (expected (codes "=") t.1) (λ ts. then_option (front_operand names ts) (λ a. then_option (front_tail names a.1) (λ r. Some (Set t.0 a.0 r.0 r.1, r.2))))))
-        (target-own names t (codes "=" ∷ operand_onto names a (tail_onto names op b rest)) new h.0)
+    (target-own names t (codes "=" ∷ operand_onto names a (tail_onto names op b rest)) new h.0)
     ∙ ap (λ p. then_option p (λ a. then_option (front_tail names a.1) (λ r. Some (Set t a.0 r.0 r.1, r.2)))) (operand-own names a (tail_onto names op b rest) new h.1)
     ∙ ap (λ p. then_option p (λ r. Some (Set t a r.0 r.1, r.2))) (tail-own names op b rest new h.2)
 
@@ -124,8 +118,8 @@ act-own names Send rest new h = ap (λ o. then_option o (λ ts. Some (Send, ts))
 act-own names (Set t a op b) rest new h =
     ap (λ ts. front_act names ts) (target-split names t (codes "=" ∷ operand_onto names a (tail_onto names op b rest)))
     ∙ ap (λ r. if r then then_option (front_send (target_rest t (codes "=" ∷ operand_onto names a (tail_onto names op b rest)))) (λ ts. Some (Send, ts))
-            else assignment_from names (target_token names t) (target_rest t (codes "=" ∷ operand_onto names a (tail_onto names op b rest))))
-        (target-unlike names t (codes "send") new h.0 send-reserved refl)
+    else assignment_from names (target_token names t) (target_rest t (codes "=" ∷ operand_onto names a (tail_onto names op b rest))))
+    (target-unlike names t (codes "send") new h.0 send-reserved refl)
     ∙ assignment-own names t a op b rest new h
 
 act-goes_on : (names : List (List ℕ)) (act : Act) (rest : List (List ℕ)) → AreNewNames [] names → IsActWritten (length names) act
@@ -134,7 +128,7 @@ act-goes_on names Send rest new h = refl
 act-goes_on names (Set t a op b) rest new h =
     ap (λ ts. expected (codes "}") ts) (target-split names t (codes "=" ∷ operand_onto names a (tail_onto names op b rest)))
     ∙ expected-other (codes "}") (target_token names t) (target_rest t (codes "=" ∷ operand_onto names a (tail_onto names op b rest)))
-        (target-unlike names t (codes "}") new h.0 refl refl)
+    (target-unlike names t (codes "}") new h.0 refl refl)
 
 pub acts-own : (names : List (List ℕ)) (n : ℕ) (acts : List Act) (rest : List (List ℕ)) → AreNewNames [] names → AreActsWritten (length names) acts → length acts ≤ n
     → front_acts names n (acts_onto names acts (codes "}" ∷ rest)) ≡ Some (acts, rest)
@@ -165,11 +159,11 @@ more-is names n ts r ih e =
     let act = act-is names ts a.0 a.1 in
     let acts = ih a.0.1 b.0 b.1 in
     subst (λ (p : List Act × List (List ℕ)). AreActs names (suc n) ts p) same
-        (act.0 ∙ ap (λ l. act_onto names a.0.0 l) acts.0, (act.1, acts.1), omega (arith, acts.2))
+    (act.0 ∙ ap (λ l. act_onto names a.0.0 l) acts.0, (act.1, acts.1), omega (arith, acts.2))
 
 pub acts-are : (names : List (List ℕ)) (n : ℕ) (ts : List (List ℕ)) (r : List Act × List (List ℕ)) → front_acts names n ts ≡ Some r → AreActs names n ts r
 unfolding front_acts
 acts-are names zero ts r e = ended-is names zero ts (expected (codes "}") ts) None r refl e (λ h. absurd (cc))
 acts-are names (suc n) ts r e =
     ended-is names (suc n) ts (expected (codes "}") ts) (then_option (front_act names ts) (λ a. then_option (front_acts names n a.1) (λ r. Some (a.0 ∷ r.0, r.1)))) r refl e
-        (more-is names n ts r (acts-are names n))
+    (more-is names n ts r (acts-are names n))

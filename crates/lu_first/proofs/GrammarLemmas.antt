@@ -1,24 +1,20 @@
 -- The reader of acts agrees with their grammar.
-use Rattle.std.proofs.Common.{◌≡◌, ◌<◌, ◌≤◌, ◌+◌, ℕ, zero, suc, ℤ, pos, negsuc, List, [], ◌∷◌, ◌++◌, length, slice_index_or, Bool, true, false, if◌then◌else◌, Option, Some, None, codes, refl, sym, ap, subst, ◌∙◌, inl, inr, arith}
+use Rattle.std.proofs.Common.{◌≡◌, ◌<◌, ◌≤◌, ℕ, pos, negsuc, List, [], ◌∷◌, length, slice_index_or, true, false, if◌then◌else◌, Option, Some, None, codes, refl, sym, ap, subst, ◌∙◌, inl, inr}
 use Rattle.std.specs.Option.{option_map}
 use Rattle.std.specs.Str.{bytes_eq}
-use Rattle.std.specs.Fmt.{decimal, signed_decimal}
+use Rattle.std.specs.Fmt.{decimal}
 use Rattle.lu_spec.specs.Then.{then_option}
 use Rattle.lu_spec.proofs.ThenLemmas.{then_some}
 use Rattle.src_model.specs.First.{IsTargetWithin}
-use Rattle.src_model.specs.declared.first.Act.{Act}
-use Rattle.src_model.specs.declared.first.Act.TheVariants.{Set, Send}
 use Rattle.src_model.specs.declared.first.Target.{Target}
 use Rattle.src_model.specs.declared.first.Target.TheVariants as target
 use Rattle.src_model.specs.declared.first.Operand.{Operand}
 use Rattle.src_model.specs.declared.first.Operand.TheVariants as operand
-use Rattle.src_model.specs.declared.first.Op.{Op}
-use Rattle.src_model.specs.declared.first.Op.TheVariants.{Only, Plus, Minus}
 use Rattle.lu_first.specs.Names.{is_allowed, place_of}
 use Rattle.lu_first.specs.Number.{literal_of}
-use Rattle.lu_first.specs.Source.{operand_onto, target_onto, tail_onto, act_onto, acts_onto, head_onto, init_onto, handler_onto, IsLiteral, IsOperandWritten, IsSecondWritten, IsActWritten, AreActsWritten, AreNewNames}
-use Rattle.lu_first.specs.Reading.{expected, front_token, front_head, front_init, front_send, index_of, front_index, operand_field, front_field, found_or_number, named_operand, operand_from, front_operand, target_field, target_from, op_of, front_second, front_tail, assignment_from, front_act, ended_or, front_acts, front_handler}
-use Rattle.lu_first.proofs.TokenLemmas.{same-token, token-is, apart-by, apart-sym, expected-own, expected-other, expected-is, expect-some, token-some, if-token, decimal-start, literal-own, literal-is, index-own, index-is, allowed-start, allowed-apart, m_in-reserved, m_out-reserved, send-reserved, starts_with_digit}
+use Rattle.lu_first.specs.Source.{operand_onto, target_onto, head_onto, IsOperandWritten, AreNewNames}
+use Rattle.lu_first.specs.Reading.{expected, front_token, front_head, front_send, index_of, front_index, operand_field, front_field, found_or_number, named_operand, operand_from, front_operand, target_field, target_from}
+use Rattle.lu_first.proofs.TokenLemmas.{apart-by, apart-sym, expected-own, expected-is, expect-some, token-some, if-token, decimal-start, literal-own, literal-is, index-own, index-is, allowed-start, allowed-apart, m_in-reserved, m_out-reserved, starts_with_digit}
 use Rattle.lu_first.proofs.PlaceLemmas.{place-is, place-own, place-none, allowed-at}
 
 -- heads of functions
@@ -26,7 +22,7 @@ pub head-own : (name : List ℕ) (rest : List (List ℕ)) → front_head name (h
 unfolding front_head
 head-own name rest =
     ap (λ o. then_option o (λ ts. then_option (expected (codes "(") ts) (λ ts. then_option (expected (codes "void") ts) (λ ts. then_option (expected (codes ")") ts) (expected (codes "{"))))))
-        (expected-own name (codes "(" ∷ codes "void" ∷ codes ")" ∷ codes "{" ∷ rest))
+    (expected-own name (codes "(" ∷ codes "void" ∷ codes ")" ∷ codes "{" ∷ rest))
 
 pub head-is : (name : List ℕ) (ts rest : List (List ℕ)) → front_head name ts ≡ Some rest → ts ≡ head_onto name rest
 unfolding front_head
@@ -73,7 +69,7 @@ front-index-is ts r e =
     let same : (c.0, d.0) ≡ r = cc in
     let number = index-is b.0 c.0 c.1 in
     subst (λ (p : ℕ × List (List ℕ)). (ts ≡ index_onto p.0 p.1) × (p.0 < 6)) same
-        (a.1 ∙ ap (λ l. codes "[" ∷ l) (b.2 ∙ ap (λ t. t ∷ b.1) number.0 ∙ ap (λ l. decimal c.0 ∷ l) d.1), number.1)
+    (a.1 ∙ ap (λ l. codes "[" ∷ l) (b.2 ∙ ap (λ t. t ∷ b.1) number.0 ∙ ap (λ l. decimal c.0 ∷ l) d.1), number.1)
 
 -- fields of `m_in`
 abbrev IsField : List (List ℕ) → List ℕ → List (List ℕ) → Operand × List (List ℕ) → Type 0
@@ -86,20 +82,20 @@ m_in_field names field word ts e = ap (λ f. codes "m_in" ∷ codes "." ∷ f �
 field-is : (names : List (List ℕ)) (field : List ℕ) (ts : List (List ℕ)) (r : Operand × List (List ℕ)) → operand_field field ts ≡ Some r → IsField names field ts r
 unfolding operand_field
 field-is names field ts r e = elim (if-token field (codes "source") _ _ r e) [
-    inl here ↦ (let same : (operand.Source, ts) ≡ r = cc in subst (λ p. IsField names field ts p) same (m_in_field names field (codes "source") ts here.0, tt))
-    | inr next ↦ elim (if-token field (codes "type") _ _ r next.1) [
-        inl here ↦ (let same : (operand.Kind, ts) ≡ r = cc in subst (λ p. IsField names field ts p) same (m_in_field names field (codes "type") ts here.0, tt))
-        | inr more ↦ elim (if-token field (codes "arg") (then_option (front_index ts) (λ k. Some (operand.Arg k.0, k.1))) None r more.1) [
-            inl here ↦ (
-                let found = then_some (front_index ts) (λ k. Some (operand.Arg k.0, k.1)) r here.1 in
-                let index = front-index-is ts found.0 found.1 in
-                let same : (operand.Arg found.0.0, found.0.1) ≡ r = cc in
-                subst (λ p. IsField names field ts p) same
-                    (m_in_field names field (codes "arg") ts here.0 ∙ ap (λ l. codes "m_in" ∷ codes "." ∷ codes "arg" ∷ l) index.0, index.1))
-            | inr none ↦ absurd (let wrong = none.1 in cc)
-        ]
+  | inl here ↦ (let same : (operand.Source, ts) ≡ r = cc in subst (λ p. IsField names field ts p) same (m_in_field names field (codes "source") ts here.0, tt))
+  | inr next ↦ elim (if-token field (codes "type") _ _ r next.1) [
+    | inl here ↦ (let same : (operand.Kind, ts) ≡ r = cc in subst (λ p. IsField names field ts p) same (m_in_field names field (codes "type") ts here.0, tt))
+    | inr more ↦ elim (if-token field (codes "arg") (then_option (front_index ts) (λ k. Some (operand.Arg k.0, k.1))) None r more.1) [
+      | inl here ↦ (
+          let found = then_some (front_index ts) (λ k. Some (operand.Arg k.0, k.1)) r here.1 in
+          let index = front-index-is ts found.0 found.1 in
+          let same : (operand.Arg found.0.0, found.0.1) ≡ r = cc in
+          subst (λ p. IsField names field ts p) same
+          (m_in_field names field (codes "arg") ts here.0 ∙ ap (λ l. codes "m_in" ∷ codes "." ∷ codes "arg" ∷ l) index.0, index.1))
+      | inr none ↦ absurd (let wrong = none.1 in cc)
     ]
   ]
+]
 
 front-field-is : (names : List (List ℕ)) (ts : List (List ℕ)) (r : Operand × List (List ℕ)) → front_field ts ≡ Some r
     → (codes "m_in" ∷ ts ≡ operand_onto names r.0 r.1) × IsOperandWritten (length names) r.0
@@ -136,12 +132,12 @@ unfolding front_operand operand_from
 operand-is names ts r e =
     let a = token-some ts _ r e in
     elim (if-token a.0 (codes "m_in") (front_field a.1) (then_option (named_operand names a.0) (λ o. Some (o, a.1))) r a.3) [
-        inl field ↦ (let f = front-field-is names a.1 r field.1 in (a.2 ∙ ap (λ t. t ∷ a.1) field.0 ∙ f.0, f.1))
-        | inr name ↦ (
-            let o = then_some (named_operand names a.0) (λ o. Some (o, a.1)) r name.1 in
-            let same : (o.0, a.1) ≡ r = cc in
-            let n = named-is names a.0 a.1 o.0 o.1 in
-            subst (λ (p : Operand × List (List ℕ)). (ts ≡ operand_onto names p.0 p.1) × IsOperandWritten (length names) p.0) same (a.2 ∙ n.0, n.1))
+      | inl field ↦ (let f = front-field-is names a.1 r field.1 in (a.2 ∙ ap (λ t. t ∷ a.1) field.0 ∙ f.0, f.1))
+      | inr name ↦ (
+          let o = then_some (named_operand names a.0) (λ o. Some (o, a.1)) r name.1 in
+          let same : (o.0, a.1) ≡ r = cc in
+          let n = named-is names a.0 a.1 o.0 o.1 in
+          subst (λ (p : Operand × List (List ℕ)). (ts ≡ operand_onto names p.0 p.1) × IsOperandWritten (length names) p.0) same (a.2 ∙ n.0, n.1))
     ]
 
 named-own : (names : List (List ℕ)) (k : ℕ) → AreNewNames [] names → k < length names → named_operand names (slice_index_or names k []) ≡ Some (operand.Global k)
@@ -180,7 +176,7 @@ pub operand-own : (names : List (List ℕ)) (o : Operand) (rest : List (List ℕ
     → front_operand names (operand_onto names o rest) ≡ Some (o, rest)
 operand-own names (operand.Global k) rest new h =
     single-own names (slice_index_or names k []) rest (operand.Global k)
-        (allowed-apart (slice_index_or names k []) (codes "m_in") (allowed-at [] names k new h) m_in-reserved) (named-own names k new h)
+    (allowed-apart (slice_index_or names k []) (codes "m_in") (allowed-at [] names k new h) m_in-reserved) (named-own names k new h)
 operand-own names (operand.Number (pos n)) rest new h =
     single-own names (decimal n) rest (operand.Number (pos n)) (apart-by starts_with_digit (decimal n) (codes "m_in") (decimal-start n h) refl) (number-own names n new h)
 operand-own names (operand.Number (negsuc n)) rest new h = absurd h
@@ -193,38 +189,38 @@ out_field-is : (names : List (List ℕ)) (field : List ℕ) (ts : List (List ℕ
     → (codes "m_out" ∷ codes "." ∷ field ∷ ts ≡ target_onto names r.0 r.1) × IsTargetWithin (length names) r.0
 unfolding target_field
 out_field-is names field ts r e = elim (if-token field (codes "type") _ _ r e) [
-    inl here ↦ (
-        let same : (target.OutType, ts) ≡ r = cc in
+  | inl here ↦ (
+      let same : (target.OutType, ts) ≡ r = cc in
+      subst (λ (p : Target × List (List ℕ)). (codes "m_out" ∷ codes "." ∷ field ∷ ts ≡ target_onto names p.0 p.1) × IsTargetWithin (length names) p.0) same
+      (ap (λ f. codes "m_out" ∷ codes "." ∷ f ∷ ts) here.0, tt))
+  | inr more ↦ elim (if-token field (codes "arg") (then_option (front_index ts) (λ k. Some (target.OutArg k.0, k.1))) None r more.1) [
+    | inl here ↦ (
+        let found = then_some (front_index ts) (λ k. Some (target.OutArg k.0, k.1)) r here.1 in
+        let index = front-index-is ts found.0 found.1 in
+        let same : (target.OutArg found.0.0, found.0.1) ≡ r = cc in
         subst (λ (p : Target × List (List ℕ)). (codes "m_out" ∷ codes "." ∷ field ∷ ts ≡ target_onto names p.0 p.1) × IsTargetWithin (length names) p.0) same
-            (ap (λ f. codes "m_out" ∷ codes "." ∷ f ∷ ts) here.0, tt))
-    | inr more ↦ elim (if-token field (codes "arg") (then_option (front_index ts) (λ k. Some (target.OutArg k.0, k.1))) None r more.1) [
-        inl here ↦ (
-            let found = then_some (front_index ts) (λ k. Some (target.OutArg k.0, k.1)) r here.1 in
-            let index = front-index-is ts found.0 found.1 in
-            let same : (target.OutArg found.0.0, found.0.1) ≡ r = cc in
-            subst (λ (p : Target × List (List ℕ)). (codes "m_out" ∷ codes "." ∷ field ∷ ts ≡ target_onto names p.0 p.1) × IsTargetWithin (length names) p.0) same
-                (ap (λ f. codes "m_out" ∷ codes "." ∷ f ∷ ts) here.0 ∙ ap (λ l. codes "m_out" ∷ codes "." ∷ codes "arg" ∷ l) index.0, index.1))
-        | inr none ↦ absurd (let wrong = none.1 in cc)
-    ]
+        (ap (λ f. codes "m_out" ∷ codes "." ∷ f ∷ ts) here.0 ∙ ap (λ l. codes "m_out" ∷ codes "." ∷ codes "arg" ∷ l) index.0, index.1))
+    | inr none ↦ absurd (let wrong = none.1 in cc)
   ]
+]
 
 pub target-is : (names : List (List ℕ)) (token : List ℕ) (ts : List (List ℕ)) (r : Target × List (List ℕ)) → target_from names token ts ≡ Some r
     → (token ∷ ts ≡ target_onto names r.0 r.1) × IsTargetWithin (length names) r.0
 unfolding target_from
 target-is names token ts r e =
     elim (if-token token (codes "m_out") (then_option (expected (codes ".") ts) (λ ts. then_option (front_token ts) (λ f. target_field f.0 f.1)))
-        (then_option (place_of names token) (λ k. Some (target.Global k, ts))) r e) [
-        inl out ↦ (
-            let a = expect-some (codes ".") ts _ r out.1 in
-            let b = token-some a.0 _ r a.2 in
-            let f = out_field-is names b.0 b.1 r b.3 in
-            (ap (λ t. t ∷ ts) out.0 ∙ ap (λ l. codes "m_out" ∷ l) (a.1 ∙ ap (λ l. codes "." ∷ l) b.2) ∙ f.0, f.1))
-        | inr name ↦ (
-            let k = then_some (place_of names token) (λ k. Some (target.Global k, ts)) r name.1 in
-            let same : (target.Global k.0, ts) ≡ r = cc in
-            let place = place-is names token k.0 k.1 in
-            subst (λ (p : Target × List (List ℕ)). (token ∷ ts ≡ target_onto names p.0 p.1) × IsTargetWithin (length names) p.0) same
-                (ap (λ t. t ∷ ts) (sym place.1), place.0))
+    (then_option (place_of names token) (λ k. Some (target.Global k, ts))) r e) [
+      | inl out ↦ (
+          let a = expect-some (codes ".") ts _ r out.1 in
+          let b = token-some a.0 _ r a.2 in
+          let f = out_field-is names b.0 b.1 r b.3 in
+          (ap (λ t. t ∷ ts) out.0 ∙ ap (λ l. codes "m_out" ∷ l) (a.1 ∙ ap (λ l. codes "." ∷ l) b.2) ∙ f.0, f.1))
+      | inr name ↦ (
+          let k = then_some (place_of names token) (λ k. Some (target.Global k, ts)) r name.1 in
+          let same : (target.Global k.0, ts) ≡ r = cc in
+          let place = place-is names token k.0 k.1 in
+          subst (λ (p : Target × List (List ℕ)). (token ∷ ts ≡ target_onto names p.0 p.1) × IsTargetWithin (length names) p.0) same
+          (ap (λ t. t ∷ ts) (sym place.1), place.0))
     ]
 
 -- an assignment's target: its first token, and what follows
@@ -252,8 +248,8 @@ named_target-own : (names : List (List ℕ)) (k : ℕ) (rest : List (List ℕ)) 
 unfolding target_from
 named_target-own names k rest new h =
     ap (λ r. if r then then_option (expected (codes ".") rest) (λ ts. then_option (front_token ts) (λ f. target_field f.0 f.1))
-            else then_option (place_of names (slice_index_or names k [])) (λ k. Some (target.Global k, rest)))
-        (allowed-apart (slice_index_or names k []) (codes "m_out") (allowed-at [] names k new h) m_out-reserved)
+    else then_option (place_of names (slice_index_or names k [])) (λ k. Some (target.Global k, rest)))
+    (allowed-apart (slice_index_or names k []) (codes "m_out") (allowed-at [] names k new h) m_out-reserved)
     ∙ ap (λ p. then_option p (λ k. Some (target.Global k, rest))) (place-own [] names k new h)
 
 pub target-own : (names : List (List ℕ)) (t : Target) (rest : List (List ℕ)) → AreNewNames [] names → IsTargetWithin (length names) t

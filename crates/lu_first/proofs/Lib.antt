@@ -12,3 +12,4 @@ mod ActLemmas
 mod SourceLemmas
 mod PlanReading
 mod SetupLemmas
+mod WithinLemmas

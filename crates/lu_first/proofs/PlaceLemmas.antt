@@ -1,10 +1,10 @@
 -- The numbers of names.
-use Rattle.std.proofs.Common.{◌≡◌, ◌<◌, ◌≤◌, ◌+◌, ℕ, zero, suc, List, [], ◌∷◌, ◌++◌, length, slice_index_or, Bool, true, false, if◌then◌else◌, Option, Some, None, refl, sym, ap, subst, ◌∙◌, append_assoc, arith, length-append}
+use Rattle.std.proofs.Common.{◌≡◌, ◌<◌, ℕ, zero, suc, List, [], ◌∷◌, ◌++◌, length, slice_index_or, Bool, true, false, if◌then◌else◌, Option, Some, None, refl, ap, subst, ◌∙◌, arith}
 use Rattle.std.specs.Option.{option_map}
 use Rattle.std.specs.Str.{bytes_eq}
 use Rattle.lu_first.specs.Names.{is_allowed, place_of}
 use Rattle.lu_first.specs.Source.{AreNewNames}
-use Rattle.lu_first.proofs.TokenLemmas.{same-token, token-is, apart-sym}
+use Rattle.lu_first.proofs.TokenLemmas.{same-token, token-is}
 
 -- a name that was found stands at its number
 pub place-is : (names : List (List ℕ)) (token : List ℕ) (k : ℕ) → place_of names token ≡ Some k → (k < length names) × (slice_index_or names k [] ≡ token)
@@ -19,6 +19,7 @@ place-is (name ∷ names) token k e = by_answer (bytes_eq name token) refl e (pl
         let found = ih j p in
         let next : suc j ≡ k = cc in
         subst (λ n. (n < suc (length names)) × (slice_index_or (name ∷ names) n [] ≡ token)) next (omega (arith, found.0), found.1)
+
     by_answer : (r : Bool) → bytes_eq name token ≡ r → (if r then Some zero else option_map suc (place_of names token)) ≡ Some k
         → ((j : ℕ) → place_of names token ≡ Some j → (j < length names) × (slice_index_or names j [] ≡ token))
         → (k < suc (length names)) × (slice_index_or (name ∷ names) k [] ≡ token)
@@ -35,6 +36,7 @@ fewer (name ∷ names) more token e = by_answer (bytes_eq name token) e (fewer n
     none_of : (o : Option ℕ) → option_map suc o ≡ None → o ≡ None
     none_of None e = refl
     none_of (Some k) e = absurd (cc)
+
     by_answer : (r : Bool) → (if r then Some zero else option_map suc (place_of (names ++ more) token)) ≡ None
         → (place_of (names ++ more) token ≡ None → place_of names token ≡ None)
         → (if r then Some zero else option_map suc (place_of names token)) ≡ None
@@ -53,6 +55,7 @@ last-apart (first ∷ earlier) name token e = by_answer (bytes_eq first token) e
     none_of : (o : Option ℕ) → option_map suc o ≡ None → o ≡ None
     none_of None e = refl
     none_of (Some k) e = absurd (cc)
+
     by_answer : (r : Bool) → (if r then Some zero else option_map suc (place_of (earlier ++ name ∷ []) token)) ≡ None
         → (place_of (earlier ++ name ∷ []) token ≡ None → bytes_eq name token ≡ false) → bytes_eq name token ≡ false
     by_answer true e ih = absurd (cc)

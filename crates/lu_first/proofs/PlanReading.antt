@@ -1,5 +1,5 @@
 -- The reader of plans agrees with their text.
-use Rattle.std.proofs.Common.{◌≡◌, ◌<◌, ◌≤◌, ℕ, zero, suc, List, [], ◌∷◌, ◌++◌, length, Bool, true, false, not, ◌&&◌, nat_eq, nat_le, if◌then◌else◌, Option, Some, None, codes, refl, sym, ap, subst, ◌∙◌, append_assoc, arith}
+use Rattle.std.proofs.Common.{◌≡◌, ◌≤◌, ℕ, List, [], ◌∷◌, ◌++◌, length, Bool, true, false, not, ◌&&◌, nat_eq, nat_le, if◌then◌else◌, Option, Some, None, codes, refl, ap, subst, ◌∙◌, arith}
 use Rattle.std.proofs.lemmas.Bool.{eqb-true}
 use Rattle.std.proofs.lemmas.Bool.Decides.{nat_tests}
 use Rattle.std.specs.Char.{is_ascii_digit}
@@ -12,7 +12,7 @@ use Rattle.lu_first.specs.Bytes.{stripped, up_to}
 use Rattle.lu_first.specs.Number.{literal_of}
 use Rattle.lu_first.specs.Plan.{PlanParts, IsPlan, plan_text, quoted_line, plan_of, between, server_number, checked, is_file_byte, is_file_name, is_name_byte, is_name}
 use Rattle.lu_first.proofs.PlanLemmas.{and-parts}
-use Rattle.lu_first.proofs.TokenLemmas.{token-is, same-token, literal-own, literal-is, decimal-digits}
+use Rattle.lu_first.proofs.TokenLemmas.{token-is, literal-own, literal-is, decimal-digits}
 
 stripped-is : (front text rest : List ℕ) → stripped front text ≡ Some rest → text ≡ front ++ rest
 stripped-is [] text rest e = cc
@@ -155,14 +155,14 @@ plan-is text p e =
     let made = checked-is d.0.1 (record { schedule = a.0.0; name = b.0.0; number = n.0; source = d.0.0 }) p n.2 in
     let number = server_number-is c.0.0 n.0 n.1 in
     let spelled : text ≡ plan_text (record { schedule = a.0.0; name = b.0.0; number = n.0; source = d.0.0 }) =
-        between-is (codes "schedule = " ++ (34 ∷ [])) 34 text a.0 a.1
-        ∙ ap (λ l. quoted_front (codes "schedule") a.0.0 l) (between-is (10 ∷ (codes "[[server]]" ++ (10 ∷ (codes "name = " ++ (34 ∷ []))))) 34 a.0.1 b.0 b.1)
-        ∙ ap (λ l. quoted_line (codes "schedule") a.0.0 (codes "[[server]]" ++ (10 ∷ quoted_front (codes "name") b.0.0 l))) (between-is (10 ∷ codes "number = ") 10 b.0.1 c.0 c.1)
-        ∙ ap (λ l. quoted_line (codes "schedule") a.0.0 (codes "[[server]]" ++ (10 ∷ quoted_line (codes "name") b.0.0 (codes "number = " ++ (l ++ (10 ∷ c.0.1)))))) number.0
-        ∙ ap (λ l. quoted_line (codes "schedule") a.0.0 (codes "[[server]]" ++ (10 ∷ quoted_line (codes "name") b.0.0 (codes "number = " ++ (decimal n.0 ++ (10 ∷ l))))))
-            (between-is (codes "source = " ++ (34 ∷ [])) 34 c.0.1 d.0 d.1 ∙ ap (λ l. quoted_front (codes "source") d.0.0 l) made.1.ending) in
+    between-is (codes "schedule = " ++ (34 ∷ [])) 34 text a.0 a.1
+    ∙ ap (λ l. quoted_front (codes "schedule") a.0.0 l) (between-is (10 ∷ (codes "[[server]]" ++ (10 ∷ (codes "name = " ++ (34 ∷ []))))) 34 a.0.1 b.0 b.1)
+    ∙ ap (λ l. quoted_line (codes "schedule") a.0.0 (codes "[[server]]" ++ (10 ∷ quoted_front (codes "name") b.0.0 l))) (between-is (10 ∷ codes "number = ") 10 b.0.1 c.0 c.1)
+    ∙ ap (λ l. quoted_line (codes "schedule") a.0.0 (codes "[[server]]" ++ (10 ∷ quoted_line (codes "name") b.0.0 (codes "number = " ++ (l ++ (10 ∷ c.0.1)))))) number.0
+    ∙ ap (λ l. quoted_line (codes "schedule") a.0.0 (codes "[[server]]" ++ (10 ∷ quoted_line (codes "name") b.0.0 (codes "number = " ++ (decimal n.0 ++ (10 ∷ l))))))
+    (between-is (codes "source = " ++ (34 ∷ [])) 34 c.0.1 d.0 d.1 ∙ ap (λ l. quoted_front (codes "source") d.0.0 l) made.1.ending) in
     subst (λ q. IsPlan text q) made.0
-        (record { spelled = spelled; schedule = made.1.schedule; name = made.1.name; number = number.1; source = made.1.source })
+    (record { spelled = spelled; schedule = made.1.schedule; name = made.1.name; number = number.1; source = made.1.source })
 
 pub plan-own : (text : List ℕ) (p : PlanParts) → IsPlan text p → plan_of text ≡ Some p
 unfolding plan_of

@@ -11,7 +11,7 @@ use Rattle.lu_first.specs.declared.loading.LoadError.{LoadError}
 use Rattle.lu_first.specs.declared.loading.LoadError.TheVariants.{Unbuilt, ReadFault, Memory}
 use Rattle.lu_first.specs.declared.pieces.Splitting.TheVariants.{Tokens}
 use Rattle.lu_first.specs.Pieces.{pieces}
-use Rattle.lu_first.specs.Plan.{PlanParts, plan_of}
+use Rattle.lu_first.specs.Plan.{plan_of}
 use Rattle.lu_first.specs.Reading.{source_of}
 use Rattle.lu_first.specs.Schedule.{schedule_of}
 use Rattle.lu_first.specs.SetupData.{SetupData, setup_data}
@@ -74,11 +74,22 @@ setup-is files plan s e =
     let program = program-is files p.0.source g.0 g.1 in
     let events = events-are files p.0.schedule p.0.name es.0 es.1 in
     subst (λ s. IsSetup files plan s) same
-        (record {
-          parts = p.0; plan_text = text.0; plan_file = text-is (files plan) 1048576 text.0 text.1; is_plan = plan-is text.0 p.0 p.1;
-          source_text = program.0; source_file = program.1; names = g.0.0; is_source = source-is program.0 g.0 program.2;
-          schedule_text = events.0; schedule_file = events.1; is_schedule = events.2; name = refl; number = refl; globals = refl
-        })
+    (record {
+      parts = p.0;
+      plan_text = text.0;
+      plan_file = text-is (files plan) 1048576 text.0 text.1;
+      is_plan = plan-is text.0 p.0 p.1;
+      source_text = program.0;
+      source_file = program.1;
+      names = g.0.0;
+      is_source = source-is program.0 g.0 program.2;
+      schedule_text = events.0;
+      schedule_file = events.1;
+      is_schedule = events.2;
+      name = refl;
+      number = refl;
+      globals = refl;
+    })
 
 setup-own : (files : Files) (plan : List ℕ) (s : SetupData) → IsSetup files plan s → setup_at files plan ≡ Some s
 unfolding setup_at
@@ -88,7 +99,7 @@ setup-own files plan s is =
     let g = program-own files is.parts.source is.source_text is.names s.acts is.source_file (source-own is.source_text is.names s.acts is.is_source) in
     let es = events-own files is.parts.schedule is.parts.name is.schedule_text s.events is.schedule_file is.is_schedule in
     let made : record { name = is.parts.name; number = pos is.parts.number; globals = length is.names; acts = s.acts; events = s.events } ≡ s =
-        made_of s is.parts.name (pos is.parts.number) (length is.names) is.name is.number is.globals in
+    made_of s is.parts.name (pos is.parts.number) (length is.names) is.name is.number is.globals in
     rw (t, p, g, es) (ap (λ q. Some q) made)
   where
     made_of : (s : SetupData) (name : List ℕ) (number : _) (globals : ℕ) → s.name ≡ name → s.number ≡ number → s.globals ≡ globals

@@ -1,8 +1,7 @@
 -- The reader of sources agrees with their grammar.
-use Rattle.std.proofs.Common.{◌≡◌, ◌⊎◌, ◌<◌, ◌≤◌, ◌+◌, ◌-◌, ℕ, zero, suc, List, [], ◌∷◌, ◌++◌, length, Bool, true, false, not, ◌&&◌, nat_lt, if◌then◌else◌, Option, Some, None, is_some, codes, refl, sym, ap, subst, ◌∙◌, inl, inr, append_assoc, arith, length-append}
+use Rattle.std.proofs.Common.{◌≡◌, ◌⊎◌, ◌<◌, ◌≤◌, ◌+◌, ℕ, zero, suc, List, [], ◌∷◌, ◌++◌, length, Bool, true, false, not, ◌&&◌, nat_lt, if◌then◌else◌, Option, Some, None, is_some, codes, refl, sym, ap, subst, ◌∙◌, inl, inr, append_assoc, arith, length-append}
 use Rattle.std.proofs.lemmas.List.{append-nil}
 use Rattle.std.proofs.lemmas.Bool.Decides.{nat_tests}
-use Rattle.std.specs.Str.{bytes_eq}
 use Rattle.lu_spec.specs.Then.{then_option}
 use Rattle.lu_spec.proofs.ThenLemmas.{then_some}
 use Rattle.src_model.specs.declared.first.Act.{Act}
@@ -10,7 +9,7 @@ use Rattle.lu_first.specs.declared.pieces.Splitting.TheVariants.{Tokens}
 use Rattle.lu_first.specs.Pieces.{pieces}
 use Rattle.lu_first.specs.Names.{is_allowed, place_of}
 use Rattle.lu_first.specs.Source.{acts_onto, head_onto, init_onto, handler_onto, globals_onto, AreActsWritten, AreNewNames, IsSource}
-use Rattle.lu_first.specs.Reading.{expected, front_token, front_head, front_init, front_acts, front_handler, at_end, functions_behind, functions_of, front_name, front_declaration, declared_or, front_globals, source_of}
+use Rattle.lu_first.specs.Reading.{expected, front_head, front_init, front_acts, front_handler, at_end, functions_behind, functions_of, front_name, front_declaration, declared_or, front_globals, source_of}
 use Rattle.lu_first.proofs.TokenLemmas.{expected-is, expect-some, token-some}
 use Rattle.lu_first.proofs.ReadingLemmas.{globals-end, globals-step}
 use Rattle.lu_first.proofs.GrammarLemmas.{head-own, head-is}
@@ -61,16 +60,20 @@ behind-is : (names ts : List (List ℕ)) (acts : List Act) (o : Option (List (Li
 behind-is names ts acts (Some rest) i e =
     let h = then_some (front_handler names rest) (λ h. at_end h.0 h.1) acts e in
     let end = end-is h.0.0 acts h.0.1 h.2 in
-    let handler = handler-is names rest h.0 h.1 in
-    (inl (init-is ts rest i ∙ ap (λ l. init_onto l) (handler.0 ∙ ap (λ l. handler_onto names h.0.0 l) end.1 ∙ ap (λ a. handler_onto names a []) end.0)),
-        subst (λ a. AreActsWritten (length names) a) end.0 handler.1, subst (λ (a : List Act). length a ≤ 1000) end.0 handler.2)
+    let handler = handler-is names rest h.0 h.1 in (
+      inl (init-is ts rest i ∙ ap (λ l. init_onto l) (handler.0 ∙ ap (λ l. handler_onto names h.0.0 l) end.1 ∙ ap (λ a. handler_onto names a []) end.0)),
+      subst (λ a. AreActsWritten (length names) a) end.0 handler.1,
+      subst (λ (a : List Act). length a ≤ 1000) end.0 handler.2,
+    )
 behind-is names ts acts None i e =
     let h = then_some (front_handler names ts) (λ h. then_option (front_init h.1) (at_end h.0)) acts e in
     let j = then_some (front_init h.0.1) (at_end h.0.0) acts h.2 in
     let end = end-is h.0.0 acts j.0 j.2 in
-    let handler = handler-is names ts h.0 h.1 in
-    (inr (handler.0 ∙ ap (λ l. handler_onto names h.0.0 l) (init-is h.0.1 j.0 j.1 ∙ ap (λ l. init_onto l) end.1) ∙ ap (λ a. handler_onto names a (init_onto [])) end.0),
-        subst (λ a. AreActsWritten (length names) a) end.0 handler.1, subst (λ (a : List Act). length a ≤ 1000) end.0 handler.2)
+    let handler = handler-is names ts h.0 h.1 in (
+      inr (handler.0 ∙ ap (λ l. handler_onto names h.0.0 l) (init-is h.0.1 j.0 j.1 ∙ ap (λ l. init_onto l) end.1) ∙ ap (λ a. handler_onto names a (init_onto [])) end.0),
+      subst (λ a. AreActsWritten (length names) a) end.0 handler.1,
+      subst (λ (a : List Act). length a ≤ 1000) end.0 handler.2,
+    )
 
 functions-are : (names ts : List (List ℕ)) (acts : List Act) → functions_of names ts ≡ Some acts → AreFunctions names ts acts
 unfolding functions_of
@@ -114,7 +117,7 @@ name-is names ts r e =
         let c = expect-some (codes ";") rest (λ ts. Some (name, ts)) r e in
         let same : (name, c.0) ≡ r = cc in
         subst (λ (p : List ℕ × List (List ℕ)). (name ∷ rest ≡ p.0 ∷ codes ";" ∷ p.1) × (is_allowed p.0 ≡ true) × (place_of names p.0 ≡ None)) same
-            (ap (λ l. name ∷ l) c.1, a, b)
+        (ap (λ l. name ∷ l) c.1, a, b)
     checked name rest true (Some k) a b e = absurd (cc)
     checked name rest false o a b e = absurd (cc)
 
@@ -135,7 +138,7 @@ globals-own n names [] rest all few new e = globals-end n names rest e ∙ ap (�
 globals-own zero names (name ∷ more) rest all few new e = absurd (omega arith)
 globals-own (suc n) names (name ∷ more) rest all few new e =
     globals-step n names (codes "int" ∷ name ∷ codes ";" ∷ globals_onto more rest) (name ∷ codes ";" ∷ globals_onto more rest) (names ++ name ∷ []) (globals_onto more rest)
-        refl (declaration-own names name (globals_onto more rest) (omega arith) new.0 new.1)
+    refl (declaration-own names name (globals_onto more rest) (omega arith) new.0 new.1)
     ∙ globals-own n (names ++ name ∷ []) more rest (omega (arith, length-append names (name ∷ []))) (omega arith) new.2 e
     ∙ ap (λ l. Some (l, rest)) (append_assoc names (name ∷ []) more)
 
@@ -154,9 +157,13 @@ grown-is names rest d e = by_room (nat_lt (length names) 64) e
     by_room true e =
         let f = then_some (front_name names rest) (λ f. Some (names ++ f.0 ∷ [], f.1)) d e in
         let n = name-is names rest f.0 f.1 in
-        let same : (names ++ f.0.0 ∷ [], f.0.1) ≡ d = cc in
-        (f.0.0, sym (ap (λ (p : List (List ℕ) × List (List ℕ)). p.0) same),
-            n.0 ∙ ap (λ (p : List (List ℕ) × List (List ℕ)). f.0.0 ∷ codes ";" ∷ p.1) same, n.1, n.2)
+        let same : (names ++ f.0.0 ∷ [], f.0.1) ≡ d = cc in (
+          f.0.0,
+          sym (ap (λ (p : List (List ℕ) × List (List ℕ)). p.0) same),
+          n.0 ∙ ap (λ (p : List (List ℕ) × List (List ℕ)). f.0.0 ∷ codes ";" ∷ p.1) same,
+          n.1,
+          n.2,
+        )
 
 pub globals-are : (n : ℕ) (names ts : List (List ℕ)) (r : List (List ℕ) × List (List ℕ)) → front_globals n names ts ≡ Some r → Declares n names ts r
 unfolding front_globals
@@ -178,11 +185,13 @@ globals-are (suc n) names ts r e = one_more (expected (codes "int") ts) refl e (
     one_more (Some rest) h e ih =
         let d = then_some (front_declaration names rest) (λ d. front_globals n d.0 d.1) r e in
         let g = grown-is names rest d.0 d.1 in
-        let later = ih d.0 d.2 in
-        (g.0 ∷ later.0,
-            later.1 ∙ ap (λ l. l ++ later.0) g.1 ∙ append_assoc names (g.0 ∷ []) later.0,
-            expected-is (codes "int") ts rest h ∙ ap (λ l. codes "int" ∷ l) (g.2 ∙ ap (λ l. g.0 ∷ codes ";" ∷ l) later.2),
-            (g.3, g.4, subst (λ l. AreNewNames l later.0) g.1 later.3), omega (arith, later.4))
+        let later = ih d.0 d.2 in (
+          g.0 ∷ later.0,
+          later.1 ∙ ap (λ l. l ++ later.0) g.1 ∙ append_assoc names (g.0 ∷ []) later.0,
+          expected-is (codes "int") ts rest h ∙ ap (λ l. codes "int" ∷ l) (g.2 ∙ ap (λ l. g.0 ∷ codes ";" ∷ l) later.2),
+          (g.3, g.4, subst (λ l. AreNewNames l later.0) g.1 later.3),
+          omega (arith, later.4),
+        )
 
 -- a source
 abbrev IsRead : List (List ℕ) → List (List ℕ) × List Act → Type 0
@@ -205,9 +214,13 @@ read-is ts s e =
     let names = globals-are 64 [] ts g.0 g.1 in
     let functions = functions-are g.0.0 g.0.1 f.0 f.1 in
     let spelled = subst (λ l. ts ≡ globals_onto l g.0.1) (sym names.1) names.2 in
-    subst (λ (p : List (List ℕ) × List Act). IsRead ts p) same
-        (subst (λ (l : List (List ℕ)). length l ≤ 64) (sym names.1) names.4, subst (λ l. AreNewNames [] l) (sym names.1) names.3,
-            functions.2, functions.1, in_order g.0.0 ts g.0.1 f.0 spelled functions.0)
+    subst (λ (p : List (List ℕ) × List Act). IsRead ts p) same (
+      subst (λ (l : List (List ℕ)). length l ≤ 64) (sym names.1) names.4,
+      subst (λ l. AreNewNames [] l) (sym names.1) names.3,
+      functions.2,
+      functions.1,
+      in_order g.0.0 ts g.0.1 f.0 spelled functions.0,
+    )
 
 pub source-is : (text : List ℕ) (s : List (List ℕ) × List Act) → source_of (pieces Tokens text) ≡ Some s → IsSource text s.0 s.1
 source-is text s e =
@@ -223,8 +236,8 @@ parts-own names rest acts few new e f =
 
 pub source-own : (text : List ℕ) (names : List (List ℕ)) (acts : List Act) → IsSource text names acts → source_of (pieces Tokens text) ≡ Some (names, acts)
 source-own text names acts is = elim is.spelled [
-    inl first ↦ ap source_of first
-        ∙ parts-own names (init_onto (handler_onto names acts [])) acts is.few is.names_new refl (functions-first names acts is.names_new is.acts_written is.short)
-    | inr last ↦ ap source_of last
-        ∙ parts-own names (handler_onto names acts (init_onto [])) acts is.few is.names_new refl (functions-last names acts is.names_new is.acts_written is.short)
-  ]
+  | inl first ↦ ap source_of first
+      ∙ parts-own names (init_onto (handler_onto names acts [])) acts is.few is.names_new refl (functions-first names acts is.names_new is.acts_written is.short)
+  | inr last ↦ ap source_of last
+      ∙ parts-own names (handler_onto names acts (init_onto [])) acts is.few is.names_new refl (functions-last names acts is.names_new is.acts_written is.short)
+]

@@ -1,6 +1,5 @@
 -- Single tokens.
-use Rattle.std.proofs.Common.{◌≡◌, ◌⊎◌, ◌<◌, ◌≤◌, ◌+◌, ◌*◌, ◌^◌, ℕ, zero, suc, ℤ, pos, List, [], ◌∷◌, ◌++◌, length, get_or, slice_index_or, Bool, true, false, not, ◌&&◌, ◌||◌, nat_eq, nat_lt, nat_le, if◌then◌else◌, Option, Some, None, codes, refl, sym, ap, subst, ◌∙◌, inl, inr, arith, rules}
-use Rattle.std.specs.Option.{option_map}
+use Rattle.std.proofs.Common.{◌≡◌, ◌⊎◌, ◌<◌, ◌≤◌, ◌^◌, ℕ, zero, suc, List, [], ◌∷◌, length, get_or, Bool, true, false, not, ◌&&◌, ◌||◌, nat_eq, nat_lt, nat_le, if◌then◌else◌, Option, Some, None, codes, refl, sym, ap, subst, ◌∙◌, inl, inr, arith, rules}
 use Rattle.std.specs.Char.{is_ascii_digit, is_ascii_alphabetic}
 use Rattle.std.specs.Str.{bytes_eq, all_ascii_digits}
 use Rattle.std.specs.Fmt.{decimal}
@@ -9,7 +8,7 @@ use Rattle.std.proofs.lemmas.Slice.Eq.{bytes_eq-Decides}
 use Rattle.std.proofs.lemmas.Fmt.{digits_decimal, digits_value-decimal, decimal-digits_value, decimal_nonempty, first_decimal, decimal_digit}
 use Rattle.std.proofs.lemmas.Str.Parse.{IsNumeralModel, numerals_by_fold}
 use Rattle.lu_spec.specs.Then.{then_option}
-use Rattle.lu_first.specs.Names.{is_allowed, is_reserved, place_of}
+use Rattle.lu_first.specs.Names.{is_allowed, is_reserved}
 use Rattle.lu_first.specs.Number.{literal_of, number_between, number_of, value_on, has_leading_zero}
 use Rattle.lu_first.specs.Reading.{expected, front_token, index_of}
 
@@ -103,6 +102,7 @@ no_leading_zero n h = by_zero n h
     first_apart : (ds : List ℕ) → 48 < get_or ds 0 0 → has_leading_zero ds ≡ false
     first_apart [] h = refl
     first_apart (d ∷ ds) h = let other : nat_eq d 48 ≡ false = grind (arith, nat_tests) in rw other refl
+
     by_zero : (n : ℕ) → n ≤ 2147483647 → has_leading_zero (decimal n) ≡ false
     by_zero zero h = ap has_leading_zero (decimal_digit 0 (omega arith))
     by_zero (suc n) h = first_apart (decimal (suc n)) (first_decimal (suc n) (omega arith) (omega arith))
@@ -112,8 +112,8 @@ pub literal-own : (n : ℕ) → n ≤ 2147483647 → literal_of (decimal n) ≡ 
 literal-own n h =
     ap (λ r. if r then None else number_between 0 2147483647 (decimal n)) (no_leading_zero n h)
     ∙ between-in (decimal n) 0 2147483647 n
-        (number_of-digits (decimal n) (decimal_nonempty n (omega arith)) (decimal-digits n (omega arith)) ∙ ap (λ m. Some m) (digits_value-decimal own n (omega arith)))
-        (omega arith) h
+    (number_of-digits (decimal n) (decimal_nonempty n (omega arith)) (decimal-digits n (omega arith)) ∙ ap (λ m. Some m) (digits_value-decimal own n (omega arith)))
+    (omega arith) h
 
 between-is : (word : List ℕ) (low high n : ℕ) → number_between low high word ≡ Some n → (number_of word ≡ Some n) × (low ≤ n) × (n ≤ high)
 between-is word low high n e = of_number (number_of word) e
@@ -122,6 +122,7 @@ between-is word low high n e = of_number (number_of word) e
     in_range m true true a b e = let same : m ≡ n = cc in (e, (let x : low ≤ m = grind (arith, nat_tests) in omega arith), (let x : m ≤ high = grind (arith, nat_tests) in omega arith))
     in_range m true false a b e = absurd (cc)
     in_range m false q a b e = absurd (cc)
+
     of_number : (o : Option ℕ) → then_option o (λ m. if nat_le low m && nat_le m high then Some m else None) ≡ Some n → (o ≡ Some n) × (low ≤ n) × (n ≤ high)
     of_number None e = absurd (cc)
     of_number (Some m) e = in_range m (nat_le low m) (nat_le m high) refl refl e
@@ -166,6 +167,7 @@ index-is word k e = of_literal (literal_of word) refl e
     in_range : (n : ℕ) (p : Bool) → nat_lt n 6 ≡ p → literal_of word ≡ Some n → (if p then Some n else None) ≡ Some k → (word ≡ decimal k) × (k < 6)
     in_range n true a l e = let same : n ≡ k = cc in (((literal-is word n l).0 ∙ ap decimal same), (let x : n < 6 = grind (arith, nat_tests) in omega arith))
     in_range n false a l e = absurd (cc)
+
     of_literal : (o : Option ℕ) → literal_of word ≡ o → then_option o (λ n. if nat_lt n 6 then Some n else None) ≡ Some k → (word ≡ decimal k) × (k < 6)
     of_literal None l e = absurd (cc)
     of_literal (Some n) l e = in_range n (nat_lt n 6) refl l e
@@ -178,6 +180,7 @@ allowed-start (b ∷ bs) h = letter (is_ascii_digit b) refl (front (is_ascii_alp
     front : (p q : Bool) → (p && q) ≡ true → p ≡ true
     front true q h = refl
     front false q h = absurd (cc)
+
     letter : (r : Bool) → is_ascii_digit b ≡ r → (is_ascii_alphabetic b || nat_eq b 95) ≡ true → r ≡ false
     letter true d l = absurd (grind (arith, nat_tests))
     letter false d l = refl

@@ -1,4 +1,3 @@
-use Rattle.std.proofs.Common.{◌≡◌, rules}
 use Rattle.lu_first.proofs.SetupLemmas.{answers-told}
 use Rattle.lu_first.proofs.loading.load.Goals as goal
 
