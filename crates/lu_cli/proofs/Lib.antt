@@ -1,0 +1,2 @@
+mod SequenceLemmas
+mod TranscriptLemmas

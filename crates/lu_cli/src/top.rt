@@ -1,3 +1,16 @@
+ghost use Rattle.std.specs.Prelude.{◌≡◌, ◌≤◌, ◌↔◌, ◌++◌, ◌∷◌, [], true, Some, None, IfSome, OnOk, IsErrOf};
+ghost use Rattle.std.specs.Option.{option_copied};
+ghost use Rattle.lu_spec.specs.Fault.{IsCaused, HasRisen};
+ghost use Rattle.src_model.specs.First.{AreActsWithin};
+ghost use Rattle.lu_first.specs.SetupData.{setup_data};
+ghost use Rattle.lu_lines.specs.Line.{line_bytes};
+ghost use Rattle.lu_cli.specs.Running.{world_of, setup_of, IsLoaded};
+ghost use Rattle.lu_cli.specs.Sequence.{Wrote};
+ghost use Rattle.lu_cli.specs.Top.{plan_of_words, is_plan_word, refused_line};
+ghost use Rattle.lu_cli.specs.Transcript.{told_from, whole_run, end_line, lines_bytes, transcript};
+ghost use Rattle.lu_cli.specs.World.{world_step};
+ghost use Rattle.lu_cli.specs.Stops.{status_of};
+
 use crate::system::System;
 use lu_base::{Memory, Shelf, Sink, SinkFault, Status};
 use lu_first::{Event, LoadError, Setup, load};
@@ -22,8 +35,10 @@ pub fn top<S: Shelf, K: Sink>(
     }
 }
 
-// The plan's name, where the words are accepted: `run` and a name that is not empty and does not begin with `-`.
-fn plan_word(words: &[String]) -> Option<&str> {
+// The plan's name, where the words are accepted.
+fn plan_word(words: &[String]) -> Option<&str>
+    ensures { option_copied result ≡ plan_of_words words.now }
+{
     match words {
         [command, plan] => {
             let name = plan.as_str();
@@ -37,36 +52,27 @@ fn plan_word(words: &[String]) -> Option<&str> {
     }
 }
 
-fn is_plan_word(word: &[u8]) -> bool {
+fn is_plan_word(word: &[u8]) -> bool
+    ensures { result ≡ is_plan_word word.now }
+{
     match word {
         [] => false,
         [first, ..] => *first != b'-',
     }
 }
 
-// Why a run stopped.
+/// Why a run stopped.
 #[derive(Clone, Copy, Debug, PartialEq, Eq)]
-enum Stopped {
+pub enum Stopped {
+    /// A write failed.
     WriteFault,
+    /// An allocation was refused.
     Memory,
 }
 
-impl From<Memory> for Stopped {
-    fn from(_: Memory) -> Self {
-        Stopped::Memory
-    }
-}
-
-impl From<SinkFault> for Stopped {
-    fn from(fault: SinkFault) -> Self {
-        match fault {
-            SinkFault::Failed => Stopped::WriteFault,
-            SinkFault::Memory => Stopped::Memory,
-        }
-    }
-}
-
-fn done_or_fault(outcome: Result<(), Stopped>, done: Status) -> Status {
+fn done_or_fault(outcome: Result<(), Stopped>, done: Status) -> Status
+    ensures { result ≡ status_of done outcome }
+{
     match outcome {
         Ok(()) => done,
         Err(Stopped::WriteFault) => Status::WriteFault,
@@ -74,16 +80,70 @@ fn done_or_fault(outcome: Result<(), Stopped>, done: Status) -> Status {
     }
 }
 
-fn refuse<K: Sink>(sink: &mut K) -> Result<(), Stopped> {
-    Ok(sink.write(b"refused unbuilt\n")?)
+fn refuse<K: Sink>(sink: &mut K) -> Result<(), Stopped>
+    ensures cause { IsCaused Stopped.WriteFault (K.faults sink.old) (K.faults sink.new) result }
+    ensures wrote { IfSome (K.wrote sink.old) (λ before. Wrote before refused_line (K.wrote sink.new) result) }
+{
+    write_piece(b"refused unbuilt\n", sink)
+}
+
+fn write_piece<K: Sink>(piece: &[u8], sink: &mut K) -> Result<(), Stopped>
+    ensures cause { IsCaused Stopped.WriteFault (K.faults sink.old) (K.faults sink.new) result }
+    ensures wrote { IfSome (K.wrote sink.old) (λ before. Wrote before piece.now (K.wrote sink.new) result) }
+{
+    match sink.write(piece) {
+        Ok(()) => Ok(()),
+        Err(SinkFault::Failed) => Err(Stopped::WriteFault),
+        Err(SinkFault::Memory) => Err(Stopped::Memory),
+    }
 }
 
 // The boot, the setup's events and the end.
-fn run<K: Sink>(alloc: Global, setup: &Setup, sink: &mut K) -> Result<(), Stopped> {
-    let mut system = System::new(alloc, setup)?;
-    step(alloc, &mut system, &Event::Boot, sink)?;
-    steps(alloc, &mut system, setup.events.as_slice(), sink)?;
-    step(alloc, &mut system, &Event::Finish, sink)
+fn run<K: Sink>(alloc: Global, setup: &Setup, sink: &mut K) -> Result<(), Stopped>
+    requires { AreActsWithin setup.now.program.globals setup.now.program.acts.items }
+    ensures cause { IsCaused Stopped.WriteFault (K.faults sink.old) (K.faults sink.new) result }
+    ensures wrote { IfSome (K.wrote sink.old) (λ before. Wrote before (transcript (setup_data setup.now)) (K.wrote sink.new) result) }
+{
+    match System::new(alloc, setup) {
+        Ok(mut system) => run_events(alloc, &mut system, setup.events.as_slice(), sink),
+        Err(Memory) => Err(Stopped::Memory),
+    }
+}
+
+// The boot, the events and the end.
+fn run_events<K: Sink>(
+    alloc: Global,
+    system: &mut System,
+    events: &[Event],
+    sink: &mut K,
+) -> Result<(), Stopped>
+    requires { IsLoaded system.old }
+    ensures cause { IsCaused Stopped.WriteFault (K.faults sink.old) (K.faults sink.new) result }
+    ensures wrote { IfSome (K.wrote sink.old) (λ before.
+        Wrote before (whole_run (setup_of system.old) (world_of system.old) events.now) (K.wrote sink.new) result) }
+{
+    match step(alloc, system, &Event::Boot, sink) {
+        Ok(()) => run_on(alloc, system, events, sink),
+        Err(stopped) => Err(stopped),
+    }
+}
+
+// The events and the end.
+fn run_on<K: Sink>(
+    alloc: Global,
+    system: &mut System,
+    events: &[Event],
+    sink: &mut K,
+) -> Result<(), Stopped>
+    requires { IsLoaded system.old }
+    ensures cause { IsCaused Stopped.WriteFault (K.faults sink.old) (K.faults sink.new) result }
+    ensures wrote { IfSome (K.wrote sink.old) (λ before.
+        Wrote before (told_from (setup_of system.old) (world_of system.old) events.now ++ end_line) (K.wrote sink.new) result) }
+{
+    match steps(alloc, system, events, sink) {
+        Ok(()) => step(alloc, system, &Event::Finish, sink),
+        Err(stopped) => Err(stopped),
+    }
 }
 
 fn steps<K: Sink>(
@@ -91,11 +151,20 @@ fn steps<K: Sink>(
     system: &mut System,
     events: &[Event],
     sink: &mut K,
-) -> Result<(), Stopped> {
+) -> Result<(), Stopped>
+    requires { IsLoaded system.old }
+    ensures loaded { IsLoaded system.new }
+    ensures setup { setup_of system.new ≡ setup_of system.old }
+    ensures cause { IsCaused Stopped.WriteFault (K.faults sink.old) (K.faults sink.new) result }
+    ensures wrote { IfSome (K.wrote sink.old) (λ before.
+        Wrote before (told_from (setup_of system.old) (world_of system.old) events.now) (K.wrote sink.new) result) }
+{
     let mut rest = events;
     while let [event, after @ ..] = rest {
-        step(alloc, system, event, sink)?;
-        rest = after;
+        match step(alloc, system, event, sink) {
+            Ok(()) => rest = after,
+            Err(stopped) => return Err(stopped),
+        }
     }
     Ok(())
 }
@@ -106,18 +175,42 @@ fn step<K: Sink>(
     system: &mut System,
     event: &Event,
     sink: &mut K,
-) -> Result<(), Stopped> {
+) -> Result<(), Stopped>
+    requires { IsLoaded system.old }
+    ensures loaded { IsLoaded system.new }
+    ensures setup { setup_of system.new ≡ setup_of system.old }
+    ensures cause { IsCaused Stopped.WriteFault (K.faults sink.old) (K.faults sink.new) result }
+    ensures world { OnOk result (world_of system.new ≡ (world_step (setup_of system.old) (world_of system.old) event.now).world) }
+    ensures wrote { IfSome (K.wrote sink.old) (λ before.
+        Wrote before (lines_bytes (world_step (setup_of system.old) (world_of system.old) event.now).notes) (K.wrote sink.new) result) }
+{
     let mut notes = Vec::new(alloc);
-    system.event(event, &mut notes)?;
-    write_notes(alloc, &notes, sink)
+    match system.event(event, &mut notes) {
+        Ok(()) => write_notes(alloc, &notes, sink),
+        Err(Memory) => Err(Stopped::Memory),
+    }
 }
 
-fn write_notes<K: Sink>(alloc: Global, notes: &[Note], sink: &mut K) -> Result<(), Stopped> {
+fn write_notes<K: Sink>(alloc: Global, notes: &[Note], sink: &mut K) -> Result<(), Stopped>
+    ensures cause { IsCaused Stopped.WriteFault (K.faults sink.old) (K.faults sink.new) result }
+    ensures wrote { IfSome (K.wrote sink.old) (λ before. Wrote before (lines_bytes notes.now) (K.wrote sink.new) result) }
+{
     let mut rest = notes;
     while let [note, after @ ..] = rest {
-        let line = line_of(alloc, note)?;
-        sink.write(line.as_slice())?;
-        rest = after;
+        match write_note(alloc, note, sink) {
+            Ok(()) => rest = after,
+            Err(stopped) => return Err(stopped),
+        }
     }
     Ok(())
+}
+
+fn write_note<K: Sink>(alloc: Global, note: &Note, sink: &mut K) -> Result<(), Stopped>
+    ensures cause { IsCaused Stopped.WriteFault (K.faults sink.old) (K.faults sink.new) result }
+    ensures wrote { IfSome (K.wrote sink.old) (λ before. Wrote before (line_bytes note.now) (K.wrote sink.new) result) }
+{
+    match line_of(alloc, note) {
+        Ok(line) => write_piece(line.as_slice(), sink),
+        Err(Memory) => Err(Stopped::Memory),
+    }
 }

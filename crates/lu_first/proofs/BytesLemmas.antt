@@ -1,5 +1,5 @@
 -- What stands before the first of some byte.
-use Rattle.std.proofs.Common.{◌≡◌, ℕ, zero, suc, ◌<◌, ◌≤◌, List, [], ◌∷◌, length, take, drop, Bool, true, false, nat_eq, if◌then◌else◌, Option, Some, None, refl, ap, ◌∙◌, arith}
+use Rattle.std.proofs.Common.{◌≡◌, ℕ, zero, suc, ◌<◌, ◌≤◌, List, [], ◌∷◌, length, take, drop, Bool, true, false, nat_eq, if◌then◌else◌, Option, Some, None, refl, ap, arith}
 use Rattle.lu_spec.specs.Then.{then_option}
 use Rattle.lu_first.specs.Bytes.{up_to, length_before}
 
@@ -7,7 +7,7 @@ found_step : (r : Bool) (stop b : ℕ) (bs : List ℕ)
     → (length_before stop bs < length bs → up_to stop bs ≡ Some (take (length_before stop bs) bs, drop 1 (drop (length_before stop bs) bs)))
     → (if r then zero else suc (length_before stop bs)) < suc (length bs)
     → if◌then◌else◌ {A = Option (List ℕ × List ℕ)} r (Some ([], bs)) (then_option (up_to stop bs) (λ p. Some (b ∷ p.0, p.1)))
-        ≡ Some (take (if r then zero else suc (length_before stop bs)) (b ∷ bs), drop 1 (drop (if r then zero else suc (length_before stop bs)) (b ∷ bs)))
+    ≡ Some (take (if r then zero else suc (length_before stop bs)) (b ∷ bs), drop 1 (drop (if r then zero else suc (length_before stop bs)) (b ∷ bs)))
 found_step true stop b bs ih h = refl
 found_step false stop b bs ih h = ap (λ o. then_option o (λ p. Some (b ∷ p.0, p.1))) (ih (omega arith))
 

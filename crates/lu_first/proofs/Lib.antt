@@ -5,3 +5,11 @@ mod ReadingLemmas
 mod PlanLemmas
 mod ScheduleLemmas
 mod LoadingLemmas
+mod TokenLemmas
+mod PlaceLemmas
+mod GrammarLemmas
+mod ActLemmas
+mod SourceLemmas
+mod PlanReading
+mod SetupLemmas
+mod WithinLemmas

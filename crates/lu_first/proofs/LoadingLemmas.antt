@@ -1,5 +1,5 @@
 -- A setup from its parts.
-use Rattle.std.proofs.Common.{◌≡◌, ℕ, ℤ, pos, List, length, Option, Some, None, IfSome, refl, sym, ap, subst, ◌∙◌}
+use Rattle.std.proofs.Common.{◌≡◌, ℕ, pos, List, length, Option, Some, None, IfSome, sym, ap, subst, ◌∙◌}
 use Rattle.lu_spec.specs.Then.{then_option}
 use Rattle.lu_base.specs.Files.{Files}
 use Rattle.src_model.specs.declared.first.Act.{Act}
@@ -24,7 +24,7 @@ setup_from : (files : Files) (plan text : List ℕ) (p : PlanParts) (straight : 
 unfolding setup_at
 setup_from files plan text p straight es t q is e =
     rw (t, q) (ap (λ ev. then_option (program_at files p.source) (λ g. then_option {B = SetupData} ev (λ found. Some (record { name = p.name; number = pos p.number; globals = length g.0; acts = g.1; events = found })))) e
-        ∙ program_step (program_at files p.source) p straight es is)
+    ∙ program_step (program_at files p.source) p straight es is)
 
 pub setup-told : (before read loaded : Option Files) (plan text : List ℕ) (p : PlanParts) (straight : Straight) (es : List Event) (data' : SetupData) → data' ≡ setup_with p straight es
     → read ≡ before → loaded ≡ read → plan_of text ≡ Some p
@@ -32,8 +32,8 @@ pub setup-told : (before read loaded : Option Files) (plan text : List ℕ) (p :
     → IfSome loaded (λ files. events_at files p.schedule p.name ≡ Some es) → IfSome before (λ files. setup_at files plan ≡ Some data')
 setup-told before read loaded plan text p straight es data' made a b q t is e =
     subst (λ d. IfSome before (λ files. setup_at files plan ≡ Some d)) (sym made) (both before plan text p straight es q t
-        (subst (λ o. IfSome o (λ files. IsProgram (program_at files p.source) straight)) a is)
-        (subst (λ o. IfSome o (λ files. events_at files p.schedule p.name ≡ Some es)) (b ∙ a) e))
+    (subst (λ o. IfSome o (λ files. IsProgram (program_at files p.source) straight)) a is)
+    (subst (λ o. IfSome o (λ files. events_at files p.schedule p.name ≡ Some es)) (b ∙ a) e))
   where
     both : (before : Option Files) (plan text : List ℕ) (p : PlanParts) (straight : Straight) (es : List Event) → plan_of text ≡ Some p
         → IfSome before (λ files. text_at (files plan) 1048576 ≡ Some text) → IfSome before (λ files. IsProgram (program_at files p.source) straight)

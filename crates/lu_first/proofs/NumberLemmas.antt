@@ -1,5 +1,5 @@
 -- Numbers that are capped on the way.
-use Rattle.std.proofs.Common.{◌≡◌, ℕ, ◌+◌, ◌-◌, ◌*◌, ◌≤◌, min, List, [], ◌∷◌, Bool, true, false, ◌&&◌, if◌then◌else◌, Option, Some, None, refl, sym, ◌∙◌, ap, arith}
+use Rattle.std.proofs.Common.{◌≡◌, ℕ, ◌+◌, ◌-◌, ◌*◌, min, List, [], ◌∷◌, Bool, true, false, ◌&&◌, if◌then◌else◌, Option, Some, None, refl, ◌∙◌, ap, arith}
 use Rattle.std.specs.Char.{is_ascii_digit}
 use Rattle.std.specs.Str.{all_ascii_digits}
 use Rattle.std.specs.Option.{option_map}
@@ -18,8 +18,8 @@ pub capped_on-is : (n : ℕ) (ds : List ℕ) →
 capped_on-is n [] = refl
 capped_on-is n (d ∷ ds) =
     capped_step (is_ascii_digit d) (all_ascii_digits ds) (capped_on (min (10 * n + (d - 48)) 10000000000) ds)
-        (capped_on (min (10 * min n 10000000000 + (d - 48)) 10000000000) ds) (min (value_on (10 * n + (d - 48)) ds) 10000000000)
-        (capped_on-is (10 * n + (d - 48)) ds) (ap (λ m. capped_on m ds) (step_capped n (d - 48)))
+    (capped_on (min (10 * min n 10000000000 + (d - 48)) 10000000000) ds) (min (value_on (10 * n + (d - 48)) ds) 10000000000)
+    (capped_on-is (10 * n + (d - 48)) ds) (ap (λ m. capped_on m ds) (step_capped n (d - 48)))
 
 capped_choice : (r : Bool) (v : ℕ) → (if r then Some (min v 10000000000) else None) ≡ option_map (λ n. min n 10000000000) (if r then Some v else None)
 capped_choice true v = refl

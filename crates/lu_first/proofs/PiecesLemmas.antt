@@ -1,5 +1,5 @@
 -- The first piece of a text.
-use Rattle.std.proofs.Common.{◌≡◌, ℕ, zero, suc, ◌<◌, ◌≤◌, max, List, [], ◌∷◌, length, take, drop, Bool, true, false, ◌&&◌, if◌then◌else◌, nat_eq, refl, sym, ap, subst, ◌∙◌, inl, inr, arith}
+use Rattle.std.proofs.Common.{◌≡◌, ℕ, zero, suc, ◌<◌, max, List, [], ◌∷◌, length, take, drop, Bool, true, false, if◌then◌else◌, nat_eq, refl, sym, ap, subst, ◌∙◌, inl, inr, arith}
 use Rattle.std.proofs.lemmas.Bool.Decides.{nat_tests, eqb_tells}
 use Rattle.lu_first.specs.declared.pieces.Splitting.{Splitting}
 use Rattle.lu_first.specs.declared.pieces.Splitting.TheVariants.{Tokens, Words}
@@ -7,9 +7,9 @@ use Rattle.lu_first.specs.Pieces.{pieces, blank_of, joins_of, run_length, begins
 
 unlike : (b k : ℕ) → joins_of Tokens k ≡ false → joins_of Tokens b ≡ true → nat_eq b k ≡ false
 unlike b k blank joined = elim (eqb_tells b k) [
-    inl same ↦ absurd (let wrong : joins_of Tokens k ≡ true = subst (λ x. joins_of Tokens x ≡ true) same.1 joined in cc)
-    | inr other ↦ other.0
-  ]
+  | inl same ↦ absurd (let wrong : joins_of Tokens k ≡ true = subst (λ x. joins_of Tokens x ≡ true) same.1 joined in cc)
+  | inr other ↦ other.0
+]
 
 -- no byte both joins and is blank
 pub apart : (s : Splitting) (b : ℕ) → joins_of s b ≡ true → blank_of s b ≡ false
@@ -36,7 +36,7 @@ pieces-run s b [] j = let a = apart s b j in rw (a, j) refl
 pieces-run s b (d ∷ ds) j =
     let a = apart s b j in
     rw (a, j) (onto_step (joins_of s d) b (d ∷ ds) (pieces s (d ∷ ds)) (run_length s (d ∷ ds)) (pieces s (drop (run_length s (d ∷ ds)) (d ∷ ds)))
-        (pieces-run s d ds) (run_length-single s d ds) (λ e. ap (λ m. pieces s (drop m (d ∷ ds))) (run_length-single s d ds e)))
+    (pieces-run s d ds) (run_length-single s d ds) (λ e. ap (λ m. pieces s (drop m (d ∷ ds))) (run_length-single s d ds e)))
 
 single : (s : Splitting) (b : ℕ) (bs : List ℕ) → joins_of s b ≡ false → blank_of s b ≡ false → pieces s (b ∷ bs) ≡ (b ∷ []) ∷ pieces s bs
 single s b bs j a = rw (a, j) refl

@@ -1,9 +1,9 @@
 -- The bytes of names are ASCII.
-use Rattle.std.proofs.Common.{◌≡◌, ℕ, zero, suc, ◌<◌, List, [], ◌∷◌, Bool, true, false, ◌&&◌, refl, arith, rules}
+use Rattle.std.proofs.Common.{◌≡◌, ℕ, zero, suc, ◌<◌, List, [], ◌∷◌, Bool, true, false, ◌&&◌, refl, arith}
 use Rattle.std.specs.Str.{IsAscii}
 use Rattle.std.specs.List.{list_all}
 use Rattle.std.proofs.lemmas.Bool.Decides.{nat_tests}
-use Rattle.lu_first.specs.Plan.{is_file_byte, is_name_byte, is_file_name, is_name}
+use Rattle.lu_first.specs.Plan.{is_file_byte, is_name_byte}
 
 pub file_byte-ascii : (b : ℕ) → is_file_byte b ≡ true → b < 128
 file_byte-ascii b h = grind (arith, nat_tests)

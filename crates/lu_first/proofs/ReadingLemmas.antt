@@ -1,8 +1,7 @@
 -- Reading one thing more.
-use Rattle.std.proofs.Common.{◌≡◌, ℕ, zero, suc, ◌<◌, ◌≤◌, ◌-◌, ◌+◌, Bool, true, false, nat_lt, if◌then◌else◌, List, [], ◌∷◌, ◌++◌, length, Option, Some, None, codes, refl, sym, ap, subst, ◌∙◌, append_assoc, arith, length-append}
+use Rattle.std.proofs.Common.{◌≡◌, ℕ, zero, suc, ◌<◌, ◌-◌, ◌+◌, Bool, true, false, nat_lt, if◌then◌else◌, List, [], ◌∷◌, ◌++◌, length, Option, Some, None, codes, refl, sym, ap, ◌∙◌, append_assoc, arith, length-append}
 use Rattle.std.proofs.lemmas.Bool.Decides.{nat_tests}
 use Rattle.lu_spec.specs.Then.{then_option}
-use Rattle.lu_spec.proofs.ThenLemmas.{then_some}
 use Rattle.src_model.specs.declared.first.Act.{Act}
 use Rattle.lu_first.specs.declared.loading.Refusal.{Refusal}
 use Rattle.lu_first.specs.declared.loading.Refusal.TheVariants.{Unbuilt, Memory}
@@ -35,7 +34,7 @@ globals-refused n names ts rest Unbuilt e none = globals-none n names ts rest e 
 globals-refused n names ts rest Memory e none = none
 
 -- one declaration more
-globals-step : (n : ℕ) (names ts rest names' rest' : List (List ℕ)) → expected (codes "int") ts ≡ Some rest
+pub globals-step : (n : ℕ) (names ts rest names' rest' : List (List ℕ)) → expected (codes "int") ts ≡ Some rest
     → front_declaration names rest ≡ Some (names', rest') → front_globals (suc n) names ts ≡ front_globals n names' rest'
 unfolding front_globals
 globals-step n names ts rest names' rest' e d =
@@ -78,7 +77,7 @@ pub acts-over : (names ts : List (List ℕ)) → expected (codes "}") ts ≡ Non
 unfolding front_acts
 acts-over names ts e = ap (λ o. ended_or o None) e
 
-acts-step : (names : List (List ℕ)) (n : ℕ) (ts : List (List ℕ)) → expected (codes "}") ts ≡ None
+pub acts-step : (names : List (List ℕ)) (n : ℕ) (ts : List (List ℕ)) → expected (codes "}") ts ≡ None
     → front_acts names (suc n) ts ≡ then_option (front_act names ts) (λ a. then_option (front_acts names n a.1) (λ r. Some (a.0 ∷ r.0, r.1)))
 unfolding front_acts
 acts-step names n ts e = ap (λ o. ended_or o (then_option (front_act names ts) (λ a. then_option (front_acts names n a.1) (λ r. Some (a.0 ∷ r.0, r.1))))) e
@@ -101,17 +100,20 @@ behind_step acts a (Some r) = ap (λ l. Some (l, r.1)) (append_assoc acts (a ∷
 pushed_step : (names : List (List ℕ)) (n : ℕ) (ts : List (List ℕ)) (o : Option (Act × List (List ℕ))) (old new : List Act) (rest : List (List ℕ))
     → PushesAct o old new rest
     → (behind new (front_acts names n rest) ≡ behind old (then_option o (λ a. then_option (front_acts names n a.1) (λ r. Some (a.0 ∷ r.0, r.1)))))
-        × (length new ≡ length old + 1)
+    × (length new ≡ length old + 1)
 pushed_step names n ts None old new rest p = absurd p
-pushed_step names n ts (Some a) old new rest p =
-    (ap (λ l. behind l (front_acts names n rest)) p.0 ∙ ap (λ t. behind (old ++ a.0 ∷ []) (front_acts names n t)) p.1 ∙ behind_step old a.0 (front_acts names n a.1),
-     (let same = p.0 in grind (arith, length-append {A = Act})))
+pushed_step names n ts (Some a) old new rest p = (
+  ap (λ l. behind l (front_acts names n rest)) p.0 ∙ ap (λ t. behind (old ++ a.0 ∷ []) (front_acts names n t)) p.1 ∙ behind_step old a.0 (front_acts names n a.1),
+  (let same = p.0 in grind (arith, length-append {A = Act})),
+)
 
 pub acts-more : (names : List (List ℕ)) (ts : List (List ℕ)) (old new : List Act) (rest : List (List ℕ)) → length old < 1000
     → expected (codes "}") ts ≡ None → PushesAct (front_act names ts) old new rest
     → (behind new (front_acts names (1000 - length new) rest) ≡ behind old (front_acts names (1000 - length old) ts)) × (length new ≡ length old + 1)
 acts-more names ts old new rest few e p =
     let longer = (pushed_step names (1000 - length new) ts (front_act names ts) old new rest p).1 in
-    let left : 1000 - length old ≡ suc (1000 - length new) = omega arith in
-    ((pushed_step names (1000 - length new) ts (front_act names ts) old new rest p).0
-        ∙ ap (λ o. behind old o) (sym (ap (λ n. front_acts names n ts) left ∙ acts-step names (1000 - length new) ts e)), longer)
+    let left : 1000 - length old ≡ suc (1000 - length new) = omega arith in (
+      (pushed_step names (1000 - length new) ts (front_act names ts) old new rest p).0
+          ∙ ap (λ o. behind old o) (sym (ap (λ n. front_acts names n ts) left ∙ acts-step names (1000 - length new) ts e)),
+      longer,
+    )

@@ -1,7 +1,7 @@
 -- Lines of schedules.
-use Rattle.std.proofs.Common.{◌≡◌, ℕ, zero, suc, ◌<◌, ◌≤◌, ◌-◌, ◌+◌, Bool, true, false, nat_eq, nat_le, if◌then◌else◌, List, [], ◌∷◌, ◌++◌, length, take, drop, get_or, replicate, Option, Some, None, refl, sym, ap, subst, ◌∙◌, append_assoc, arith, length-append}
+use Rattle.std.proofs.Common.{◌≡◌, ℕ, zero, suc, ◌<◌, ◌≤◌, ◌+◌, Bool, true, false, nat_eq, nat_le, if◌then◌else◌, List, [], ◌∷◌, ◌++◌, length, take, get_or, replicate, Option, Some, None, refl, sym, ap, ◌∙◌, append_assoc, arith, length-append}
 use Rattle.std.proofs.lemmas.Bool.Decides.{nat_tests}
-use Rattle.std.proofs.lemmas.List.{replicate-append-replicate, length-replicate, append-nil}
+use Rattle.std.proofs.lemmas.List.{replicate-append-replicate, append-nil}
 use Rattle.lu_spec.specs.Then.{then_option}
 use Rattle.lu_spec.proofs.ThenLemmas.{then_some}
 use Rattle.lu_first.specs.declared.loading.Refusal.{Refusal}

@@ -12,3 +12,5 @@ pub mod Parts
 pub mod Pushed
 pub mod Loading
 pub mod SetupData
+pub mod Source
+pub mod Setup

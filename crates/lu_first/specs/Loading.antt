@@ -1,11 +1,10 @@
 -- Reading a setup from files: the plan, the source and the schedule, in this order.
-use Rattle.std.specs.Prelude.{◌≡◌, ℕ, ℤ, pos, List, length, Option, Some, None, Result, Ok, Err, nat_le, if◌then◌else◌}
+use Rattle.std.specs.Prelude.{◌≡◌, ℕ, pos, List, length, Option, Some, None, nat_le, if◌then◌else◌}
 use Rattle.lu_spec.specs.Then.{then_option}
 use Rattle.lu_base.specs.Files.{Files}
 use Rattle.src_model.specs.declared.first.Act.{Act}
 use Rattle.lu_first.specs.declared.pieces.Splitting.TheVariants.{Tokens}
 use Rattle.lu_first.specs.declared.setup.Event.{Event}
-use Rattle.lu_first.specs.declared.setup.Setup.{Setup}
 use Rattle.lu_first.specs.declared.loading.LoadError.{LoadError}
 use Rattle.lu_first.specs.declared.loading.LoadError.TheVariants.{Unbuilt, ReadFault, Memory}
 use Rattle.lu_first.specs.Pieces.{pieces}

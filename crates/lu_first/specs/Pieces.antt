@@ -1,5 +1,5 @@
 -- Texts as pieces.
-use Rattle.std.specs.Prelude.{ℕ, suc, zero, List, [], ◌∷◌, Bool, false, true, ◌&&◌, ◌||◌, not, nat_eq, if◌then◌else◌}
+use Rattle.std.specs.Prelude.{ℕ, suc, zero, List, [], ◌∷◌, Bool, false, ◌&&◌, ◌||◌, not, nat_eq, if◌then◌else◌}
 use Rattle.std.specs.Char.{is_ascii_alphanumeric}
 use Rattle.lu_first.specs.declared.pieces.Splitting.{Splitting}
 use Rattle.lu_first.specs.declared.pieces.Splitting.TheVariants.{Tokens, Words}

@@ -1,6 +1,6 @@
 -- What the tokens of a source begin with, and the tokens that follow: reading from the front.
 -- The grammar is in `Source`; this is how the reader goes.
-use Rattle.std.specs.Prelude.{◌≡◌, ℕ, zero, suc, pos, List, [], ◌∷◌, ◌++◌, length, Bool, true, false, ◌&&◌, ◌||◌, not, nat_eq, nat_lt, Option, Some, None, is_some, position, if◌then◌else◌, codes}
+use Rattle.std.specs.Prelude.{ℕ, zero, suc, pos, List, [], ◌∷◌, ◌++◌, length, ◌&&◌, not, nat_lt, Option, Some, None, is_some, if◌then◌else◌, codes}
 use Rattle.std.specs.Option.{option_map}
 use Rattle.std.specs.Str.{bytes_eq}
 use Rattle.lu_spec.specs.Then.{then_option}

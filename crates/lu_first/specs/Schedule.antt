@@ -1,9 +1,8 @@
 -- Schedules of the first form.
-use Rattle.std.specs.Prelude.{ℕ, zero, suc, ℤ, pos, List, [], ◌∷◌, ◌++◌, length, replicate, Bool, true, false, nat_eq, nat_le, Option, Some, None, if◌then◌else◌, codes}
+use Rattle.std.specs.Prelude.{ℕ, zero, suc, ℤ, pos, List, [], ◌∷◌, ◌++◌, length, replicate, nat_eq, nat_le, Option, Some, None, if◌then◌else◌, codes}
 use Rattle.std.specs.Option.{option_map}
 use Rattle.std.specs.Str.{bytes_eq}
 use Rattle.lu_spec.specs.Then.{then_option}
-use Rattle.lu_base.specs.declared.message.Message.{Message}
 use Rattle.lu_first.specs.declared.pieces.Splitting.TheVariants.{Words}
 use Rattle.lu_first.specs.declared.setup.Event.{Event}
 use Rattle.lu_first.specs.declared.setup.Event.TheVariants as event
@@ -39,9 +38,9 @@ abbrev pub send_of : List ℕ → List (List ℕ) → Option Line
 send_of name (c ∷ s ∷ t ∷ args) =
     then_option (number_between 100 999 c) (λ client.
     if bytes_eq s name then
-        then_option (int_of t) (λ kind.
-        then_option (arguments_of 6 args) (λ arg.
-        Some (line.Send (pos client) (record { source = pos client; kind = kind; arg = arg }))))
+    then_option (int_of t) (λ kind.
+    then_option (arguments_of 6 args) (λ arg.
+    Some (line.Send (pos client) (record { source = pos client; kind = kind; arg = arg }))))
     else None)
 send_of name _ = None
 

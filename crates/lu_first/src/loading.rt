@@ -5,6 +5,8 @@ ghost use Rattle.lu_first.specs.declared.loading.Refusal.TheVariants as OfText;
 ghost use Rattle.lu_first.specs.declared.loading.LoadError.TheVariants as OfFiles;
 ghost use Rattle.lu_first.specs.Loading.{text_at, program_at, events_at, setup_at, IsLoadRefusal};
 ghost use Rattle.lu_first.specs.SetupData.{setup_data};
+ghost use Rattle.lu_first.specs.Setup.{LoadAnswers};
+ghost use Rattle.src_model.specs.First.{AreActsWithin};
 ghost use Rattle.lu_first.specs.Parts.{parts_of, setup_with};
 ghost use Rattle.lu_first.specs.Read.{IsProgram};
 ghost use Rattle.lu_first.specs.Faults.{load_error_of_refusal, load_error_of_fault};
@@ -18,6 +20,7 @@ use src_model::first::Straight;
 use std::alloc::{AllocError, AllocFailed, Global};
 
 const MAX_TEXT: u64 = 1_048_576;
+
 const MAX_SCHEDULE: u64 = 8_388_608;
 
 /// Why a setup wasn't loaded.
@@ -95,13 +98,23 @@ impl From<ShelfFault> for LoadError {
     }
 }
 
-/// Reads the plan of that name, its source and its schedule, in this order.
-#[tactic(auto, unfolding(crate::specs::Loading::setup_at))]
+/// Reads the plan of that name, its source and its schedule, in this order. No file is read after one that is refused.
 pub fn load<S: Shelf>(alloc: Global, name: &str, shelf: &mut S) -> Result<Setup, LoadError>
+    ensures kept { S.holds shelf.new ≡ S.holds shelf.old }
+    ensures cause { IsCaused LoadError.ReadFault (S.faults shelf.old) (S.faults shelf.new) result }
+    ensures answer { IfSome (S.holds shelf.old) (λ files. LoadAnswers files name.now result) }
+    ensures within { IfOk result (λ setup. AreActsWithin setup.program.globals setup.program.acts.items) }
+{
+    read_setup(alloc, name, shelf)
+}
+
+#[tactic(auto, unfolding(crate::specs::Loading::setup_at))]
+fn read_setup<S: Shelf>(alloc: Global, name: &str, shelf: &mut S) -> Result<Setup, LoadError>
     ensures kept { S.holds shelf.new ≡ S.holds shelf.old }
     ensures cause { IsCaused LoadError.ReadFault (S.faults shelf.old) (S.faults shelf.new) result }
     ensures answer { IfSome (S.holds shelf.old) (λ files. MatchResult result
         (λ setup. setup_at files name.now ≡ Some (setup_data setup)) (IsLoadRefusal (setup_at files name.now))) }
+    ensures within { IfOk result (λ setup. AreActsWithin setup.program.globals setup.program.acts.items) }
 {
     let text = load_text(alloc, name, MAX_TEXT, shelf)?;
     let Some(plan) = read_plan(text.as_slice()) else {
@@ -120,7 +133,8 @@ fn setup_from(
 ) -> Result<Setup, Memory>
     requires name { IsAscii plan.now.name.now }
     requires number { plan.now.number ≤ 16 }
-    ensures { IfOk result (λ setup. setup_data setup ≡ setup_with (parts_of plan.now) program events.items) }
+    ensures data { IfOk result (λ setup. setup_data setup ≡ setup_with (parts_of plan.now) program events.items) }
+    ensures program { IfOk result (λ setup. setup.program ≡ program) }
 {
     Ok(Setup {
         name: Name::from_ascii(alloc, plan.name)?,
@@ -131,16 +145,13 @@ fn setup_from(
 }
 
 #[tactic(auto, unfolding(crate::specs::Loading::program_at))]
-fn load_source<S: Shelf>(
-    alloc: Global,
-    file: &[u8],
-    shelf: &mut S,
-) -> Result<Straight, LoadError>
+fn load_source<S: Shelf>(alloc: Global, file: &[u8], shelf: &mut S) -> Result<Straight, LoadError>
     requires { IsAscii file.now }
     ensures kept { S.holds shelf.new ≡ S.holds shelf.old }
     ensures cause { IsCaused LoadError.ReadFault (S.faults shelf.old) (S.faults shelf.new) result }
     ensures answer { IfSome (S.holds shelf.old) (λ files. MatchResult result
         (λ straight. IsProgram (program_at files file.now) straight) (IsLoadRefusal (program_at files file.now))) }
+    ensures within { IfOk result (λ straight. AreActsWithin straight.globals straight.acts.items) }
 {
     let file = Name::from_ascii(alloc, file)?;
     let text = load_text(alloc, file.as_str(), MAX_TEXT, shelf)?;

@@ -13,11 +13,49 @@ const MAX_GLOBALS: usize = 64;
 
 // Keywords, reserved words, built-ins and the names that every program has.
 const RESERVED: [&str; 43] = [
-    "void", "char", "short", "int", "long", "unsigned", "struct", "union", "if", "else", "while",
-    "for", "break", "continue", "return", "sizeof", "auto", "case", "const", "default", "do",
-    "double", "enum", "extern", "float", "goto", "inline", "register", "restrict", "signed",
-    "static", "switch", "typedef", "volatile", "send", "malloc", "calloc", "free", "panic", "m_in",
-    "m_out", "init", "on_message",
+    "void",
+    "char",
+    "short",
+    "int",
+    "long",
+    "unsigned",
+    "struct",
+    "union",
+    "if",
+    "else",
+    "while",
+    "for",
+    "break",
+    "continue",
+    "return",
+    "sizeof",
+    "auto",
+    "case",
+    "const",
+    "default",
+    "do",
+    "double",
+    "enum",
+    "extern",
+    "float",
+    "goto",
+    "inline",
+    "register",
+    "restrict",
+    "signed",
+    "static",
+    "switch",
+    "typedef",
+    "volatile",
+    "send",
+    "malloc",
+    "calloc",
+    "free",
+    "panic",
+    "m_in",
+    "m_out",
+    "init",
+    "on_message",
 ];
 
 /// The declared names, at most 64.
@@ -105,4 +143,3 @@ fn is_word_of(words: &[&str], name: &[u8]) -> bool
 {
     words.iter().any(|word| is(name, word))
 }
-

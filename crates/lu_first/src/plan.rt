@@ -5,6 +5,7 @@ ghost use Rattle.std.specs.Str.{IsAscii};
 ghost use Rattle.lu_first.specs.Bytes.{stripped, up_to};
 ghost use Rattle.lu_first.specs.Plan.{PlanParts, plan_of, between, server_number, is_file_name, is_file_byte, is_name, is_name_byte};
 ghost use Rattle.lu_first.specs.Parts.{parts_of};
+
 use crate::bytes::{is, split_at_byte, strip};
 use crate::number::literal;
 

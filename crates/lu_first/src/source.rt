@@ -1,5 +1,5 @@
 // Sources of the first form, by the tokens of the text.
-ghost use Rattle.std.specs.Prelude.{◌≡◌, ◌≤◌, ◌++◌, ◌∷◌, [], ℕ, List, MatchOption, MatchResult, Some, None, IsTrue, ◌↔◌, false, length};
+ghost use Rattle.std.specs.Prelude.{◌≡◌, ◌≤◌, ◌++◌, ◌∷◌, [], ℕ, List, IfOk, MatchOption, MatchResult, Some, None, IsTrue, ◌↔◌, false, length};
 ghost use Rattle.std.specs.Str.{bytes_eq};
 ghost use Rattle.lu_spec.specs.Then.{then_option};
 ghost use Rattle.lu_first.specs.declared.pieces.Splitting.TheVariants.{Tokens};
@@ -7,6 +7,7 @@ ghost use Rattle.lu_first.specs.Pieces.{pieces};
 ghost use Rattle.lu_first.specs.Reading.{expected, front_head, front_init, front_send, index_of, front_index, operand_field, front_field, named_operand, front_operand, target_field, target_from, front_tail, front_second, op_of, front_act, front_acts, front_handler, functions_of, front_name, front_globals, front_declaration, source_of, assignment_from};
 ghost use Rattle.lu_first.specs.Refused.{IsRefusal};
 ghost use Rattle.lu_first.specs.Read.{IsProgram, PushesAct};
+ghost use Rattle.src_model.specs.First.{AreActsWithin};
 
 use crate::bytes::is;
 use crate::loading::Refusal;
@@ -19,8 +20,16 @@ use std::alloc::Global;
 const MAX_ACTS: usize = 1000;
 
 /// The program that a source stands for.
-#[tactic(auto, unfolding(crate::specs::Reading::source_of))]
 pub fn read_source(alloc: Global, text: &[u8]) -> Result<Straight, Refusal>
+    ensures read { MatchResult result (λ straight. IsProgram (source_of (pieces Tokens text.now)) straight)
+        (IsRefusal (source_of (pieces Tokens text.now))) }
+    ensures within { IfOk result (λ straight. AreActsWithin straight.globals straight.acts.items) }
+{
+    read_parts(alloc, text)
+}
+
+#[tactic(auto, unfolding(crate::specs::Reading::source_of))]
+fn read_parts(alloc: Global, text: &[u8]) -> Result<Straight, Refusal>
     ensures { MatchResult result (λ straight. IsProgram (source_of (pieces Tokens text.now)) straight)
         (IsRefusal (source_of (pieces Tokens text.now))) }
 {
@@ -190,11 +199,7 @@ fn read_acts<'a>(
 }
 
 // Appends the next statement.
-fn push_act<'a>(
-    names: &Names,
-    acts: &mut Vec<Act>,
-    text: &'a [u8],
-) -> Result<&'a [u8], Refusal>
+fn push_act<'a>(names: &Names, acts: &mut Vec<Act>, text: &'a [u8]) -> Result<&'a [u8], Refusal>
     ensures { MatchResult result
         (λ r. PushesAct (front_act names.now (pieces Tokens text.now)) acts.old.items acts.new.items (pieces Tokens r.now))
         (IsRefusal (front_act names.now (pieces Tokens text.now))) }
@@ -221,11 +226,7 @@ fn read_act<'a>(names: &Names, text: &'a [u8]) -> Option<(Act, &'a [u8])>
 
 // What begins with that token.
 #[tactic(auto, unfolding(crate::specs::Reading::assignment_from))]
-fn read_assignment<'a>(
-    names: &Names,
-    first: &[u8],
-    text: &'a [u8],
-) -> Option<(Act, &'a [u8])>
+fn read_assignment<'a>(names: &Names, first: &[u8], text: &'a [u8]) -> Option<(Act, &'a [u8])>
     ensures { MatchOption result (assignment_from names.now first.now (pieces Tokens text.now) ≡ None) (λ r. assignment_from names.now first.now (pieces Tokens text.now) ≡ Some (r.0, pieces Tokens r.1.now)) }
 {
     let (target, rest) = read_target(names, first, text)?;
@@ -250,11 +251,7 @@ fn read_send(text: &[u8]) -> Option<&[u8]>
 
 // What begins with that token.
 #[tactic(auto, unfolding(crate::specs::Reading::target_from))]
-fn read_target<'a>(
-    names: &Names,
-    first: &[u8],
-    text: &'a [u8],
-) -> Option<(Target, &'a [u8])>
+fn read_target<'a>(names: &Names, first: &[u8], text: &'a [u8]) -> Option<(Target, &'a [u8])>
     ensures { MatchOption result (target_from names.now first.now (pieces Tokens text.now) ≡ None) (λ r. target_from names.now first.now (pieces Tokens text.now) ≡ Some (r.0, pieces Tokens r.1.now)) }
 {
     if is(first, "m_out") {

@@ -5,7 +5,7 @@ use Rattle.lu_first.proofs.bytes.length_before_byte.Given as goal
 abbrev pub invariant-loop-rest : goal.invariant-loop-rest
 invariant-loop-rest l = record {
   whole : l.len + length_before l.stop l.rest ≡ length_before l.stop l.text;
-  far : l.len + length l.rest ≡ length l.text
+  far : l.len + length l.rest ≡ length l.text;
 }
 
 abbrev pub decreases-loop-rest : goal.decreases-loop-rest

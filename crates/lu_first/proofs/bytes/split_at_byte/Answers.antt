@@ -1,4 +1,4 @@
-use Rattle.std.proofs.Common.{◌<◌, ◌≤◌, length, arith, rules}
+use Rattle.std.proofs.Common.{◌<◌, length, arith, rules}
 use Rattle.lu_first.specs.Bytes.{length_before}
 use Rattle.lu_first.proofs.BytesLemmas.{up_to-found, up_to-none}
 use Rattle.lu_first.proofs.bytes.split_at_byte.Goals as goal

@@ -1,5 +1,4 @@
-use Rattle.std.proofs.Common.{◌≡◌, ◌<◌, ◌≤◌, ◌∷◌, length, take, drop, sym, ◌∙◌, ap, arith, rules}
-use Rattle.lu_first.specs.Pieces.{pieces}
+use Rattle.std.proofs.Common.{◌<◌, length, arith, rules}
 use Rattle.lu_first.proofs.PiecesLemmas.{pieces-first}
 use Rattle.lu_first.proofs.pieces.next_piece.Goals as goal
 

@@ -5,7 +5,7 @@ use Rattle.lu_first.proofs.pieces.run_len.Given as goal
 abbrev pub invariant-loop-rest : goal.invariant-loop-rest
 invariant-loop-rest l = record {
   whole : l.len + run_length l.splitting l.rest ≡ run_length l.splitting l.text;
-  far : l.len + length l.rest ≡ length l.text
+  far : l.len + length l.rest ≡ length l.text;
 }
 
 abbrev pub decreases-loop-rest : goal.decreases-loop-rest

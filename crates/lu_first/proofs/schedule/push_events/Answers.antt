@@ -1,6 +1,5 @@
-use Rattle.std.proofs.Common.{◌≡◌, ◌++◌, ◌<◌, ◌≤◌, ◌+◌, [], ◌∷◌, length, replicate, sym, ◌∙◌, ap, rules, arith, append_assoc, length-append}
+use Rattle.std.proofs.Common.{◌≡◌, ◌++◌, [], ◌∷◌, length, replicate, sym, ◌∙◌, ap, arith, append_assoc, length-append}
 use Rattle.std.proofs.lemmas.List.{append-nil, length-replicate}
-use Rattle.lu_first.specs.declared.setup.Event.{Event}
 use Rattle.lu_first.specs.Schedule.{limited}
 use Rattle.lu_first.proofs.ScheduleLemmas.{limited-short, limited-long, replicate-more}
 use Rattle.lu_first.proofs.schedule.push_events.Goals as goal
@@ -15,15 +14,21 @@ loop-done-preserved c =
       few = omega (arith, longer, length-append c.loop-done.events.items (c.args.event ∷ []));
       same = c.in_ok-push.ensures.items ∙ ap (λ l. l ++ c.args.event ∷ []) c.loop-done.invariant.same
           ∙ append_assoc c.args.events.now.items (replicate c.loop-done._done c.args.event) (c.args.event ∷ [])
-          ∙ ap (λ l. c.args.events.now.items ++ l) (replicate-more c.loop-done._done c.args.event)
+          ∙ ap (λ l. c.args.events.now.items ++ l) (replicate-more c.loop-done._done c.args.event);
     }
 
 pub returns-then-len-ge-MAX_EVENTS : goal.returns-then-len-ge-MAX_EVENTS
 returns-then-len-ge-MAX_EVENTS c =
     let longer = ap length c.loop-done.invariant.same in
     limited-long (c.args.events.now.items ++ replicate c.args.count c.args.event)
-        (omega (arith, longer, length-append c.args.events.now.items (replicate c.loop-done._done c.args.event), length-append c.args.events.now.items (replicate c.args.count c.args.event),
-            length-replicate c.loop-done._done c.args.event, length-replicate c.args.count c.args.event))
+    (omega (
+      arith,
+      longer,
+      length-append c.args.events.now.items (replicate c.loop-done._done c.args.event),
+      length-append c.args.events.now.items (replicate c.args.count c.args.event),
+      length-replicate c.loop-done._done c.args.event,
+      length-replicate c.args.count c.args.event,
+    ))
 
 pub returns : goal.returns
 returns c =

@@ -1,4 +1,4 @@
-use Rattle.std.proofs.Common.{◌≡◌, ◌+◌, ◌-◌, true, false, nat_eq, get_or, length, sym, rules, arith}
+use Rattle.std.proofs.Common.{◌-◌, length, sym, arith}
 use Rattle.std.proofs.lemmas.Bool.Decides.{nat_tests}
 use Rattle.lu_first.proofs.ScheduleLemmas.{return-dropped, return-kept}
 use Rattle.lu_first.proofs.schedule.without_return.Goals as goal

@@ -1,4 +1,4 @@
-use Rattle.std.proofs.Common.{◌≡◌, ◌<◌, ◌≤◌, ◌-◌, ◌+◌, ◌++◌, [], length, Some, sym, ◌∙◌, ap, subst, rules, arith}
+use Rattle.std.proofs.Common.{◌≡◌, ◌<◌, ◌-◌, length, Some, sym, ◌∙◌, ap, subst, arith}
 use Rattle.std.proofs.lemmas.List.{append-nil}
 use Rattle.lu_first.specs.declared.pieces.Splitting.TheVariants.{Tokens}
 use Rattle.lu_first.specs.Pieces.{pieces}
@@ -11,7 +11,7 @@ pub returns-in-Some : goal.returns-in-Some
 returns-in-Some c =
     sym c.loop-rest.invariant.same
     ∙ ap (λ o. behind c.loop-rest.acts.items o)
-        (acts-end c.args.names.now (1000 - length c.loop-rest.acts.items) (pieces Tokens c.loop-rest.rest.now) (pieces Tokens c.in-Some.after.now) c.in-Some.ensures)
+    (acts-end c.args.names.now (1000 - length c.loop-rest.acts.items) (pieces Tokens c.loop-rest.rest.now) (pieces Tokens c.in-Some.after.now) c.in-Some.ensures)
     ∙ ap (λ l. Some (l, pieces Tokens c.in-Some.after.now)) (append-nil c.loop-rest.acts.items)
 
 pub loop-rest-preserved : goal.loop-rest-preserved
@@ -23,13 +23,13 @@ loop-rest-preserved c =
 pub returns-in-Err : goal.returns-in-Err
 returns-in-Err c =
     subst (λ o. IsRefusal o c.in-Err.refusal) c.loop-rest.invariant.same
-        (acts-refused c.args.names.now c.loop-rest.acts.items (1000 - length c.loop-rest.acts.items) (pieces Tokens c.loop-rest.rest.now) c.in-Err.refusal c.in_default.ensures c.in-Err.ensures)
+    (acts-refused c.args.names.now c.loop-rest.acts.items (1000 - length c.loop-rest.acts.items) (pieces Tokens c.loop-rest.rest.now) c.in-Err.refusal c.in_default.ensures c.in-Err.ensures)
 
 pub returns-in-Some-expect : goal.returns-in-Some-expect
 returns-in-Some-expect c =
     sym c.loop-rest.invariant.same
     ∙ ap (λ o. behind c.loop-rest.acts.items o)
-        (acts-end c.args.names.now (1000 - length c.loop-rest.acts.items) (pieces Tokens c.loop-rest.rest.now) (pieces Tokens c.in-Some-expect.after.now) c.in-Some-expect.ensures)
+    (acts-end c.args.names.now (1000 - length c.loop-rest.acts.items) (pieces Tokens c.loop-rest.rest.now) (pieces Tokens c.in-Some-expect.after.now) c.in-Some-expect.ensures)
     ∙ ap (λ l. Some (l, pieces Tokens c.in-Some-expect.after.now)) (append-nil c.loop-rest.acts.items)
 
 pub returns : goal.returns

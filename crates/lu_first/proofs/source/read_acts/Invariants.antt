@@ -1,5 +1,4 @@
-use Rattle.std.proofs.Common.{◌≡◌, ◌≤◌, ◌-◌, ◌++◌, length, Option, Some}
-use Rattle.lu_spec.specs.Then.{then_option}
+use Rattle.std.proofs.Common.{◌≡◌, ◌≤◌, ◌-◌, length}
 use Rattle.lu_first.specs.declared.pieces.Splitting.TheVariants.{Tokens}
 use Rattle.lu_first.specs.Pieces.{pieces}
 use Rattle.lu_first.specs.Reading.{front_acts}
@@ -9,7 +8,7 @@ use Rattle.lu_first.proofs.source.read_acts.Given as goal
 abbrev pub invariant-loop-rest : goal.invariant-loop-rest
 invariant-loop-rest l = record {
   few : length l.acts.items ≤ 1000;
-  same : behind l.acts.items (front_acts l.names (1000 - length l.acts.items) (pieces Tokens l.rest)) ≡ front_acts l.names 1000 (pieces Tokens l.text)
+  same : behind l.acts.items (front_acts l.names (1000 - length l.acts.items) (pieces Tokens l.rest)) ≡ front_acts l.names 1000 (pieces Tokens l.text);
 }
 
 abbrev pub decreases-loop-rest : goal.decreases-loop-rest
