@@ -1,7 +1,6 @@
 -- Writing one piece after another.
 use Rattle.std.proofs.Common.{◌≡◌, ℕ, List, [], ◌++◌, Option, Some, None, Result, Ok, Err, IfSome, refl, sym, ap, subst, ◌∙◌, append_assoc}
 use Rattle.std.proofs.lemmas.List.{append-nil}
-use Rattle.lu_spec.specs.Prefix.{IsPrefix}
 use Rattle.lu_cli.specs.Sequence.{WroteFront, Wrote}
 
 -- a part of the whole was written, and the rest remains

@@ -1,18 +1,17 @@
 -- What the statuses of a run say.
-use Rattle.std.proofs.Common.{◌≡◌, ◌≤◌, ℕ, List, [], ◌++◌, Option, Some, None, Result, Ok, Err, IfSome, refl, sym, ap, subst, ◌∙◌}
+use Rattle.std.proofs.Common.{◌≡◌, ℕ, List, [], Option, Some, None, Result, Ok, Err, IfSome, refl, sym, ap, subst}
 use Rattle.std.proofs.lemmas.List.{append-nil}
-use Rattle.lu_spec.specs.Fault.{IsCaused, HasRisen}
 use Rattle.lu_base.specs.Files.{Files}
 use Rattle.lu_base.specs.declared.status.Status.{Status}
-use Rattle.lu_base.specs.declared.status.Status.TheVariants.{Done, Usage, ReadFault, Refused, WriteFault, Memory}
+use Rattle.lu_base.specs.declared.status.Status.TheVariants.{Done, Memory}
 use Rattle.lu_first.specs.SetupData.{SetupData}
 use Rattle.lu_first.specs.Setup.{StandsFor}
 use Rattle.lu_first.proofs.SetupLemmas.{stands-decided}
 use Rattle.lu_cli.specs.declared.top.Stopped.{Stopped}
 use Rattle.lu_cli.specs.declared.top.Stopped.TheVariants as stopped
-use Rattle.lu_cli.specs.Sequence.{Wrote, WroteFront}
+use Rattle.lu_cli.specs.Sequence.{Wrote}
 use Rattle.lu_cli.specs.Stops.{status_of}
-use Rattle.lu_cli.specs.Top.{RunAnswers, OnlyRisen, refused_line, whole_text}
+use Rattle.lu_cli.specs.Top.{RunAnswers, whole_text}
 use Rattle.lu_cli.specs.Transcript.{transcript}
 
 abbrev Says : Option Files → Option (List ℕ) → List ℕ → Option (List ℕ) → Status → Type 0

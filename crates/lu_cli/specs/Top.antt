@@ -1,5 +1,5 @@
 -- What a run of the program says of the words, the files and what was written.
-use Rattle.std.specs.Prelude.{◌≡◌, ◌≤◌, ℕ, List, [], ◌∷◌, ◌++◌, Bool, true, false, ◌&&◌, not, nat_eq, Option, Some, None, String, string_bytes, if◌then◌else◌, codes}
+use Rattle.std.specs.Prelude.{◌≡◌, ◌≤◌, ℕ, List, [], ◌∷◌, ◌++◌, Bool, false, ◌&&◌, not, nat_eq, Option, Some, None, String, string_bytes, if◌then◌else◌, codes}
 use Rattle.std.specs.declared.alloc.Global.{Global}
 use Rattle.std.specs.Str.{bytes_eq}
 use Rattle.lu_spec.specs.Fault.{HasRisen}

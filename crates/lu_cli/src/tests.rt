@@ -25,26 +25,27 @@ const SCHEDULE: &str = "send 101 fs 1 5\nsend 101 fs 1 -7\nsend 102 fs 2\ndrain 
 const TRANSCRIPT: &str =
     "boot fs\nreply fs 101 101 5\nreply fs 101 101 -2\nreply fs 102 102 -2\nend\n";
 
-fn words(alloc: Global, all: &[&str]) -> Result<Vec<String>, Fail> {
+// The words of a text, which single spaces part.
+fn words(alloc: Global, text: &str) -> Result<Vec<String>, Fail> {
     let mut words = Vec::new(alloc);
-    for word in all {
+    for word in text.split(' ') {
         words.push(String::from_str(alloc, word)?)?;
     }
     Ok(words)
 }
 
-fn files(alloc: Global, all: &[(&str, &str)]) -> Result<Vec<(Name, Bytes8)>, Fail> {
-    let mut files = Vec::new(alloc);
-    for (name, text) in all {
-        let name = Name::new(String::from_str(alloc, name)?);
-        files.push((name, Bytes8::new(text.as_bytes().to_vec(alloc)?)))?;
-    }
-    Ok(files)
+fn file(alloc: Global, name: &str, text: &str) -> Result<(Name, Bytes8), Fail> {
+    let name = Name::new(String::from_str(alloc, name)?);
+    Ok((name, Bytes8::new(text.as_bytes().to_vec(alloc)?)))
 }
 
 // The three files of a run with that source and schedule.
 fn run_of(alloc: Global, source: &str, schedule: &str) -> Result<Vec<(Name, Bytes8)>, Fail> {
-    files(alloc, &[("plan", PLAN), ("fs.c", source), ("s", schedule)])
+    let mut files = Vec::new(alloc);
+    files.push(file(alloc, "plan", PLAN)?)?;
+    files.push(file(alloc, "fs.c", source)?)?;
+    files.push(file(alloc, "s", schedule)?)?;
+    Ok(files)
 }
 
 #[test]
@@ -68,12 +69,7 @@ fn runs_are_written(rt: HostRuntime) -> Result<(), Fail> {
     ] {
         let mut shelf = MemShelf::new(run_of(alloc, source, schedule)?, Vec::new(alloc));
         let mut sink = MemSink::new(alloc, Vec::new(alloc));
-        let status = top(
-            alloc,
-            &words(alloc, &["run", "plan"])?,
-            &mut shelf,
-            &mut sink,
-        );
+        let status = top(alloc, &words(alloc, "run plan")?, &mut shelf, &mut sink);
         assert_eq!(rt; sink.written(), text.as_bytes());
         let refused = text == "refused unbuilt\n";
         let wanted = if refused {
@@ -91,12 +87,7 @@ fn a_failed_write_leaves_a_front(rt: HostRuntime) -> Result<(), Fail> {
     let alloc = rt.alloc();
     let mut shelf = MemShelf::new(run_of(alloc, ADDING, SCHEDULE)?, Vec::new(alloc));
     let mut sink = MemSink::new(alloc, vec![in alloc; (3, 4)]?);
-    let status = top(
-        alloc,
-        &words(alloc, &["run", "plan"])?,
-        &mut shelf,
-        &mut sink,
-    );
+    let status = top(alloc, &words(alloc, "run plan")?, &mut shelf, &mut sink);
     assert_eq!(rt; status, Status::WriteFault);
     assert_eq!(rt;
         sink.written(),
@@ -110,12 +101,7 @@ fn a_failed_read_writes_nothing(rt: HostRuntime) -> Result<(), Fail> {
     let alloc = rt.alloc();
     let mut shelf = MemShelf::new(run_of(alloc, ADDING, SCHEDULE)?, vec![in alloc; 2]?);
     let mut sink = MemSink::new(alloc, Vec::new(alloc));
-    let status = top(
-        alloc,
-        &words(alloc, &["run", "plan"])?,
-        &mut shelf,
-        &mut sink,
-    );
+    let status = top(alloc, &words(alloc, "run plan")?, &mut shelf, &mut sink);
     assert_eq!(rt; status, Status::ReadFault);
     assert_eq!(rt; sink.written().len(), 0);
     Ok(())
@@ -124,17 +110,10 @@ fn a_failed_read_writes_nothing(rt: HostRuntime) -> Result<(), Fail> {
 #[test]
 fn other_words_are_usage(rt: HostRuntime) -> Result<(), Fail> {
     let alloc = rt.alloc();
-    for all in [
-        [].as_slice(),
-        ["run"].as_slice(),
-        ["run", "-x"].as_slice(),
-        ["run", ""].as_slice(),
-        ["gen", "01"].as_slice(),
-        ["run", "plan", "plan"].as_slice(),
-    ] {
+    for text in ["", "run", "run -x", "run ", "gen 01", "run plan plan"] {
         let mut shelf = MemShelf::new(run_of(alloc, ADDING, SCHEDULE)?, Vec::new(alloc));
         let mut sink = MemSink::new(alloc, Vec::new(alloc));
-        let status = top(alloc, &words(alloc, all)?, &mut shelf, &mut sink);
+        let status = top(alloc, &words(alloc, text)?, &mut shelf, &mut sink);
         assert_eq!(rt; status, Status::Usage);
         assert_eq!(rt; sink.written().len(), 0);
     }
@@ -142,16 +121,21 @@ fn other_words_are_usage(rt: HostRuntime) -> Result<(), Fail> {
 }
 
 #[test]
+fn no_words_are_usage(rt: HostRuntime) -> Result<(), Fail> {
+    let alloc = rt.alloc();
+    let mut shelf = MemShelf::new(Vec::new(alloc), Vec::new(alloc));
+    let mut sink = MemSink::new(alloc, Vec::new(alloc));
+    assert_eq!(rt; top(alloc, &[], &mut shelf, &mut sink), Status::Usage);
+    Ok(())
+}
+
+#[test]
 fn an_empty_plan_is_refused(rt: HostRuntime) -> Result<(), Fail> {
     let alloc = rt.alloc();
-    let mut shelf = MemShelf::new(files(alloc, &[("plan", "")])?, Vec::new(alloc));
+    let empty = vec![in alloc; file(alloc, "plan", "")?]?;
+    let mut shelf = MemShelf::new(empty, Vec::new(alloc));
     let mut sink = MemSink::new(alloc, Vec::new(alloc));
-    let status = top(
-        alloc,
-        &words(alloc, &["run", "plan"])?,
-        &mut shelf,
-        &mut sink,
-    );
+    let status = top(alloc, &words(alloc, "run plan")?, &mut shelf, &mut sink);
     assert_eq!(rt; (status, status.code()), (Status::Refused, 3));
     assert_eq!(rt; sink.written(), b"refused unbuilt\n".as_slice());
     Ok(())

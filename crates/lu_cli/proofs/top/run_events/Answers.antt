@@ -2,7 +2,7 @@ use Rattle.std.proofs.Common.{◌≡◌, ◌++◌, ◌∷◌, [], IfSome, sym, �
 use Rattle.lu_lines.specs.declared.note.Note.TheVariants as note
 use Rattle.lu_cli.specs.Running.{world_of, setup_of}
 use Rattle.lu_cli.specs.Sequence.{Wrote, WroteFront}
-use Rattle.lu_cli.specs.Transcript.{told_from, lines_bytes, end_line, whole_run}
+use Rattle.lu_cli.specs.Transcript.{told_from, lines_bytes, end_line}
 use Rattle.lu_cli.proofs.SequenceLemmas.{wrote-stop, wrote-then}
 use Rattle.lu_cli.proofs.TranscriptLemmas.{whole_run-parts}
 use Rattle.lu_cli.proofs.top.run_events.Goals as goal

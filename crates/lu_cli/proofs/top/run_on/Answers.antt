@@ -1,4 +1,3 @@
-use Rattle.std.proofs.Common.{◌≡◌}
 use Rattle.lu_cli.specs.Running.{world_of, setup_of}
 use Rattle.lu_cli.specs.Transcript.{told_from, end_line}
 use Rattle.lu_cli.proofs.SequenceLemmas.{wrote-stop}

@@ -1,4 +1,3 @@
-use Rattle.std.proofs.Common.{◌≡◌}
 use Rattle.lu_first.specs.SetupData.{setup_data}
 use Rattle.lu_cli.proofs.TopLemmas.{run-says, memory-says}
 use Rattle.lu_cli.proofs.top.run_plan.Goals as goal

@@ -1,4 +1,4 @@
-use Rattle.std.proofs.Common.{◌≡◌, rules}
+use Rattle.std.proofs.Common.{rules}
 use Rattle.lu_cli.specs.Running.{world_of, setup_of}
 use Rattle.lu_cli.specs.Transcript.{told_from}
 use Rattle.lu_cli.proofs.TranscriptLemmas.{step-stop}
