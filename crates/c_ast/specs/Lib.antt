@@ -1,3 +1,5 @@
+pub mod Lexeme
+pub mod Lexical
 pub mod Trees
 pub mod Cells
 pub mod Grammar

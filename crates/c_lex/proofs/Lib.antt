@@ -1,0 +1,10 @@
+pub mod Spans
+pub mod Classes
+pub mod Words
+pub mod Readings
+pub mod Values
+pub mod Comments
+pub mod Marks
+pub mod Strings
+pub mod Pieces
+pub mod Exact
