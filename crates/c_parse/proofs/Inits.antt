@@ -15,7 +15,8 @@ use Rattle.c_parse_expr.specs.Reading.{same_mark, is_mark, sees, sees_one, is_so
 use Rattle.c_parse_expr.proofs.Exact.{Kind, Exact, Sound, IsHot, Opens, Heads, Leads, both, seq, narrow, choose_exact, option_kind, option_exact, option_well, option_cells, option_stops, one_kind, one_exact, limit_exact, opens_left, leads_left, leads_opens, leads_hot}
 use Rattle.c_parse_expr.proofs.Chains.{list_well, list_cells, some_well, some_cells, shorter}
 use Rattle.c_parse_expr.proofs.Sorts.{token_opens, mark_kind, expect_exact, at_head, sees_heads, mark_self, grip, before_mark}
-use Rattle.c_parse_expr.proofs.Exprs.{kind, rank_small, lead, leads, opens_lead, begins_lead, begun, expr_exact}
+use Rattle.c_parse_expr.proofs.Postfixes.{kind, rank_small, lead, leads, opens_lead}
+use Rattle.c_parse_expr.proofs.Exprs.{begins_lead, begun, expr_exact}
 use Rattle.c_parse.specs.Declarations.{pick_text, sees_next, next_init, inits, last_comma, init_braces, begins_init, init_text, init_by, init, initial_value, initial}
 use Rattle.c_parse.proofs.Lists.{last_stops, some_kept, some_kept_exact}
 use Rattle.c_parse.proofs.Rights.{other_mark}

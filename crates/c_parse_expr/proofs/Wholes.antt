@@ -19,7 +19,8 @@ use Rattle.c_parse_expr.specs.Reads.{Fails}
 use Rattle.c_parse_expr.specs.Reading.{expr}
 use Rattle.c_parse_expr.specs.Answers.{located_error, RefusesExpression, OnlyExpression, OnlyRefusedExpression}
 use Rattle.c_parse_expr.proofs.Exact.{Sound, cold_or_hot}
-use Rattle.c_parse_expr.proofs.Exprs.{kind, rank_small, expr_exact}
+use Rattle.c_parse_expr.proofs.Postfixes.{kind, rank_small}
+use Rattle.c_parse_expr.proofs.Exprs.{expr_exact}
 
 known : (text : List Token) (e : Expression) (rest : List Token) → expr limit text ≡ Ok (e, rest) → Sound (kind 12 limit) text (Ok (e, rest))
 known text e rest r = subst (Sound (kind 12 limit) text) r (expr_exact limit text).sound
