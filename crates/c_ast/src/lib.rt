@@ -1,8 +1,4 @@
-<<<<<<< HEAD
-//! Tokens of a text in the C subset and their spellings, its syntax tree, and the grammar that relates the two.
-=======
 //! Tokens and trees of the C subset, and the bytes and tokens that spell them.
->>>>>>> 5e44ac2a56c8a3761d689891589826a86dd25ce3
 #![tactic(auto)]
 
 pub mod decl;
