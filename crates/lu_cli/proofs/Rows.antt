@@ -10,6 +10,7 @@ use Rattle.src_model.specs.declared.first.Op.{Op}
 use Rattle.src_model.specs.declared.first.Op.TheVariants.{Only, Plus, Minus}
 use Rattle.lu_first.specs.declared.setup.Event.{Event}
 use Rattle.lu_first.specs.declared.setup.Event.TheVariants as event
+use Rattle.lu_lines.specs.Line.{line_bytes}
 use Rattle.lu_first.specs.SetupData.{SetupData}
 use Rattle.lu_cli.specs.Transcript.{transcript, whole_run}
 
@@ -39,10 +40,10 @@ line text rest = text ++ (10 ∷ rest)
 
 adding : transcript (counting Plus)
     ≡ line (codes "boot fs") (line (codes "reply fs 101 101 5") (line (codes "reply fs 101 101 -2") (line (codes "reply fs 102 102 -2") (line (codes "end") []))))
-unfolding whole_run digits int_wrap
+unfolding whole_run digits int_wrap line_bytes
 adding = refl
 
 subtracting : transcript (counting Minus)
     ≡ line (codes "boot fs") (line (codes "reply fs 101 101 -5") (line (codes "reply fs 101 101 2") (line (codes "reply fs 102 102 2") (line (codes "end") []))))
-unfolding whole_run digits int_wrap
+unfolding whole_run digits int_wrap line_bytes
 subtracting = refl
