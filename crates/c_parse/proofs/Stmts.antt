@@ -10,7 +10,7 @@ use Rattle.c_ast.specs.declared.token.Keyword.{Keyword}
 use Rattle.c_ast.specs.declared.token.Keyword.TheVariants as k
 use Rattle.c_ast.specs.declared.types.BaseType.{BaseType}
 use Rattle.c_ast.specs.Trees.{Expression, Num, Parameter, Plain, Parameters, Right, Value, Setting, Statement, Block, Empty, Local, Assign, Call, If, IfElse, While, For, Break, Continue, Return, Statements, Done, Then, statements_of}
-use Rattle.c_ast.specs.Cells.{Cell, tokens, Hot}
+use Rattle.c_ast.specs.Cells.{Cell, tokens, PassesLimit}
 use Rattle.c_ast.specs.Grammar.{rank, cells, IsExpression, IsRightIfAny, IsSettingIfAny, setting_cells_if_any, IsExpressionIfAny, cells_if_any, parameter_cells, is_open, IsStatement, AreStatements, statement_cells, block_cells, statements_cells}
 use Rattle.c_parse_expr.specs.Reads.{Reader, made, ◌⊳◌, unless, at_limit}
 use Rattle.c_parse_expr.specs.Reading.{same_mark, same_keyword, sees, sees_keyword, expect, begins, begins_type, unary, expr}
@@ -118,7 +118,7 @@ module _ (n : ℕ) (inner : Reader Expression) (inners : (ts : List Token) → E
       met a None rest w v s h = s
       met a (Some b) rest w v s h = let f = v.0 in cc
 
-      met_hot : (a : Statement) (o : Option Statement) (ts : List Token) → IsStatement a → (tail_option a).well o → Hot ((tail_option a).cells o) ts → is_open a ≡ true → sees_keyword k.Else ts ≡ false
+      met_hot : (a : Statement) (o : Option Statement) (ts : List Token) → IsStatement a → (tail_option a).well o → PassesLimit ((tail_option a).cells o) ts → is_open a ≡ true → sees_keyword k.Else ts ≡ false
       met_hot a None ts w v h q = absurd h
       met_hot a (Some b) ts w v h q = let f = v.0 in cc
 
@@ -349,10 +349,10 @@ block_none ts =
     heads : (ss : Statements) → Opens (block_cells ss zero) ts → Heads (token.Mark m.LeftBrace) ts
     heads ss o = leads_opens (token.Mark m.LeftBrace) true (block_cells ss zero) ts (refl, refl) o
 
-hot_expression : (e : Expression) (more : List Cell) (ts : List Token) → Heads (lead e) ts → Hot (cells e zero ++ more) ts
+hot_expression : (e : Expression) (more : List Cell) (ts : List Token) → Heads (lead e) ts → PassesLimit (cells e zero ++ more) ts
 hot_expression e more ts h = leads_hot (lead e) (cells e zero ++ more) ts (leads_left (lead e) true (cells e zero) more (leads e zero)) h
 
-hot_statement : (s : Statement) (ts : List Token) → Heads (statement_lead s) ts → Hot (statement_cells s zero) ts
+hot_statement : (s : Statement) (ts : List Token) → Heads (statement_lead s) ts → PassesLimit (statement_cells s zero) ts
 hot_statement (Block ss) ts h = leads_hot (token.Mark m.LeftBrace) (statement_cells (Block ss) zero) ts (refl, refl) h
 hot_statement Empty ts h = leads_hot (token.Mark m.Semicolon) (statement_cells Empty zero) ts (refl, refl) h
 hot_statement (Local p r) ts h = leads_hot (base_lead (param_type p).base) (statement_cells (Local p r) zero) ts (leads_left (base_lead (param_type p).base) true (parameter_cells p zero) _ (param_leads p zero)) h

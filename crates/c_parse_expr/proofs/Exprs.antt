@@ -13,7 +13,7 @@ use Rattle.c_ast.specs.declared.expr.UnaryOperator.{UnaryOperator}
 use Rattle.c_ast.specs.declared.expr.UnaryOperator.TheVariants as unary_operator
 use Rattle.c_ast.specs.declared.expr.BinaryOperator.{BinaryOperator}
 use Rattle.c_ast.specs.Trees.{Expression, Num, Char, Var, Paren, Size, At, Part, Prefix, Convert, Op, Cond}
-use Rattle.c_ast.specs.Cells.{Cell, tokens, Hot, Cold, none, less}
+use Rattle.c_ast.specs.Cells.{Cell, tokens, PassesLimit, KeepsLimits, none, less}
 use Rattle.c_ast.specs.Grammar.{limit, type_cells, cells, rank, links, IsExpression, unary_mark, binary_mark, level}
 use Rattle.c_parse_expr.specs.Reads.{Reader, one, at_limit}
 use Rattle.c_parse_expr.specs.Reading
@@ -285,7 +285,7 @@ begun (t ∷ ts) h = go (is_mark m.LeftParen t) (is_keyword k.Sizeof t) (pick_at
 no_room : (n room : ℕ) → 1 ≤ n → less room ≡ zero → (ts : List Token) → Exact (kind n room) ts (at_limit begins ts)
 no_room n room some e ts = limit_exact (kind n room) begins ts (λ t w o. hot t (opens_lead t room ts o)) (λ t w o. opens_begins t room ts o) there
   where
-    hot : (t : Expression) → Heads (lead t) ts → Hot (cells t room) ts
+    hot : (t : Expression) → Heads (lead t) ts → PassesLimit (cells t room) ts
     hot t h = leads_hot (lead t) (cells t room) ts (subst (λ b. Leads (lead t) (none b) (cells t room)) e (leads t room)) h
 
     there : begins ts ≡ true → IsHot (kind n room) ts

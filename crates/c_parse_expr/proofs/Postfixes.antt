@@ -14,7 +14,7 @@ use Rattle.c_ast.specs.declared.types.TypeName.{TypeName}
 use Rattle.c_ast.specs.declared.expr.Access.{Access}
 use Rattle.c_ast.specs.declared.expr.Access.TheVariants as access
 use Rattle.c_ast.specs.Trees.{Text, Expression, Num, Char, Var, Paren, Size, At, Part, Prefix, Convert, Op, Cond}
-use Rattle.c_ast.specs.Cells.{Cell, tokens, Hot, Cold, none, less}
+use Rattle.c_ast.specs.Cells.{Cell, tokens, PassesLimit, KeepsLimits, none, less}
 use Rattle.c_ast.specs.Grammar.{limit, cells, rank, steps, IsExpression, access_mark, unary_mark}
 use Rattle.c_parse_expr.specs.Reads.{Reader, one}
 use Rattle.c_parse_expr.specs.Reading
@@ -318,7 +318,7 @@ module _ (room : ℕ) (inner : Reader Expression) (inners : (ts : List Token) �
       go false (Some a) p q e = (Of a [], tt, (sym (access_from t a q), inl refl))
       go false None p q e = cc
 
-  step_marked : (s : Step) → Cold (step_cells true s) → ⊥
+  step_marked : (s : Step) → KeepsLimits (step_cells true s) → ⊥
   step_marked (Within i) c = let h = c.0 in cc
   step_marked (Of a x) c = let h = c.0 in cc
 
