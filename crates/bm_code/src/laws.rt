@@ -1,0 +1,15 @@
+// Laws of runs.
+
+ghost use Rattle.bm_code.specs.Laws.{Compose, EndInOneWay};
+
+use crate::code::MachineCode;
+use crate::world::World;
+
+/// A run that pauses and a further run are one run of as many ticks, and a run ends in one way only.
+pub fn runs(code: &MachineCode, world: &World)
+    ensures compose { Compose code.now world.now }
+    ensures one { EndInOneWay code.now world.now }
+{
+    let _code = code;
+    let _world = world;
+}
