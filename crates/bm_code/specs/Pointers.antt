@@ -1,5 +1,5 @@
 -- What instructions do with addresses, and with the bytes at them.
-use Rattle.std.specs.Prelude.{ℕ, zero, suc, ◌+◌, ◌-◌, ◌*◌, Bool, false, ◌&&◌, nat_eq, nat_lt, nat_le, max, if◌then◌else◌, ℤ, pos, negsuc, ◌+ℤ◌, neg_ℤ, int_div, List, [], ◌∷◌, length, replicate, Option, Some, None, is_some, Result, Ok, Err, find, slice_get}
+use Rattle.std.specs.Prelude.{ℕ, zero, suc, ◌+◌, ◌-◌, ◌*◌, ◌/◌, ◌^◌, Bool, false, ◌&&◌, nat_eq, nat_lt, nat_le, max, if◌then◌else◌, ℤ, pos, negsuc, neg_ℤ, List, [], ◌∷◌, length, replicate, Option, Some, None, is_some, Result, Ok, Err, find, slice_get}
 use Rattle.std.specs.Option.{option_map}
 use Rattle.lu_spec.specs.LittleEndian.{little_endian}
 use Rattle.lu_spec.specs.Splice.{spliced}
@@ -12,7 +12,7 @@ use Rattle.c_types.specs.Descent.{find_place}
 use Rattle.bm_mem.specs.Content.{Content}
 use Rattle.bm_objects.specs.declared.row.Row.{Row}
 use Rattle.bm_objects.specs.Table.{end_of, reaches}
-use Rattle.bm_alu.specs.Words.{signed, of_signed, extended, flag}
+use Rattle.bm_alu.specs.Words.{word, signed, extended, flag}
 use Rattle.bm_code.specs.declared.operation.Pointing.{Pointing}
 use Rattle.bm_code.specs.declared.operation.Pointing.TheVariants.{Add, Subtract, Difference, Less}
 use Rattle.bm_code.specs.declared.operation.Reading.{Reading}
@@ -50,9 +50,10 @@ abbrev pub of_one_object : List Row → ℕ → ℕ → ℕ → Result ℕ Trap
 of_one_object rows p q v =
     some_or (base_of rows p) bad (λ a. some_or (base_of rows q) bad (λ b. if nat_eq a b then Ok v else Err PtrOrder))
 
--- how many elements of some bytes lie between, as an int's word
+-- how many elements of some bytes lie from q to p, rounded to 0, as an int's word; below 0 where p is lower
 abbrev pub distance : ℕ → ℕ → ℕ → ℕ
-distance p q size = extended Int (of_signed (int_div (pos p +ℤ neg_ℤ (pos q)) (pos size)))
+distance p q size =
+    extended Int (if nat_le q p then (p - q) / size else word (2 ^ 64 - (q - p) / size))
 
 abbrev pub pointed : Pointing → List Row → ℕ → ℕ → Result ℕ Trap
 pointed (Add size) rows p i = shifted rows size p (signed i)
