@@ -4,5 +4,7 @@
 pub mod frame;
 pub mod local;
 pub mod locals;
+pub mod memory;
 pub mod pointer;
 pub mod stack;
+pub mod writing;
