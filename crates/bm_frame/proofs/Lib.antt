@@ -2,3 +2,4 @@ pub mod Words
 pub mod Rows
 pub mod Bytes
 pub mod Places
+pub mod Copying
