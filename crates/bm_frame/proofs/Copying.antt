@@ -80,7 +80,7 @@ pub record Source (m : Content) (start at count : ℕ) (piece : List ℕ) : Type
 some_in : {A : Type 0} (a b : A) → Some a ≡ Some b → a ≡ b
 some_in a b h = cc
 
-holds_part : (m : Content) (s : ℕ) (a : List ℕ) (at n k count : ℕ) → k + count ≤ n → Holds m s a at n → Holds m s a (at + k) count
+pub holds_part : (m : Content) (s : ℕ) (a : List ℕ) (at n k count : ℕ) → k + count ≤ n → Holds m s a at n → Holds m s a (at + k) count
 holds_part m s a at n k count le h = record { at = h.at; low = omega (arith, h.low); high = omega (arith, h.high) }
 
 -- memory in which a piece of the object at t was replaced

@@ -3,3 +3,4 @@ pub mod Rows
 pub mod Bytes
 pub mod Places
 pub mod Copying
+pub mod Written

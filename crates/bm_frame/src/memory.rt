@@ -25,7 +25,8 @@ use c_types::table::TypeTable;
 use lu_base::Trap;
 
 /// The object of an address, if it is live and has so many bytes from there on.
-pub fn live_row(objects: &Objects, address: u64, size: u32) -> Option<Row>
+pub fn live_row(objects: &Objects, address: u64, size: u64) -> Option<Row>
+    requires { size < 2 ^ 40 }
     ensures is { result ≡ live_at objects.now address size }
     ensures low { IfSome result (λ r. r.addr ≤ address) }
     ensures high { IfSome result (λ r. address + size ≤ r.addr + r.size) }
@@ -33,7 +34,7 @@ pub fn live_row(objects: &Objects, address: u64, size: u32) -> Option<Row>
 {
     let row = find_row(objects, address)?;
     let end = row.addr as u64 + row.size as u64;
-    if row.live && address + size as u64 <= end {
+    if row.live && address + size <= end {
         Some(row)
     } else {
         None
@@ -66,7 +67,7 @@ pub fn read_number<B: Bytes>(memory: &B, objects: &Objects, address: u64, size: 
     requires mapped { IsMapped (B.content memory.now) objects.now }
     ensures { result ≡ option_map number_of (read_at (B.content memory.now) objects.now address size) }
 {
-    let _row = live_row(objects, address, size)?;
+    let _row = live_row(objects, address, size as u64)?;
     Some(number_at(memory, address as u32, size))
 }
 

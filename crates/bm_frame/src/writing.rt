@@ -36,7 +36,7 @@ fn put_piece<B: Bytes>(
     ensures mapped { IsMapped (B.content memory.new) objects.now }
     ensures kept { OnErr result (B.content memory.new ≡ B.content memory.old) }
 {
-    let Some(_row) = live_row(objects, address, piece.len() as u32) else {
+    let Some(_row) = live_row(objects, address, piece.len() as u64) else {
         return Err(Trap::BadCode);
     };
     memory.write(address as u32, piece);
@@ -155,10 +155,10 @@ fn copy<B: Bytes>(
     ensures mapped { IsMapped (B.content memory.new) objects.now }
     ensures kept { OnErr result (B.content memory.new ≡ B.content memory.old) }
 {
-    let Some(_source) = live_row(objects, from, size) else {
+    let Some(_source) = live_row(objects, from, size as u64) else {
         return Err(Trap::BadCode);
     };
-    let Some(_target) = live_row(objects, to, size) else {
+    let Some(_target) = live_row(objects, to, size as u64) else {
         return Err(Trap::BadCode);
     };
     if to <= from {
@@ -169,13 +169,11 @@ fn copy<B: Bytes>(
     Ok(())
 }
 
-/// Makes a member of the union at an address active, whose object has the range of the number and of the member.
+/// Makes a member of the union at an address active.
 fn activate<B: Bytes>(memory: &mut B, at: u32, member: u32, offset: u32, size: u32)
-    requires number { IsInside (B.content memory.old) at 4 }
-    requires inside { IsInside (B.content memory.old) (at + offset) size }
-    requires one { (s : ℕ) (a : List ℕ) → Holds (B.content memory.old) s a at 4 → Holds (B.content memory.old) s a (at + offset) size }
+    requires inside { IsInside (B.content memory.old) at (max 4 (offset + size)) }
     requires end { at + offset + size < 2 ^ 32 }
-    ensures { (s : ℕ) (a : List ℕ) → Holds (B.content memory.old) s a at 4
+    ensures { (s : ℕ) (a : List ℕ) → Holds (B.content memory.old) s a at (max 4 (offset + size))
         → B.content memory.new ≡ insert (B.content memory.old) s (with_member (at - s) member offset size a) }
 {
     clear_bytes(memory, at + offset, size, &[0; 64]);
@@ -195,10 +193,8 @@ fn write_union<B: Bytes>(
     ensures mapped { IsMapped (B.content memory.new) objects.now }
     ensures kept { OnErr result (B.content memory.new ≡ B.content memory.old) }
 {
-    let Some(end) = offset.checked_add(size) else {
-        return Err(Trap::BadCode);
-    };
-    let Some(_row) = live_row(objects, address, end.max(4)) else {
+    let range = (offset as u64 + size as u64).max(4);
+    let Some(_row) = live_row(objects, address, range) else {
         return Err(Trap::BadCode);
     };
     let Some(number) = read_number(memory, objects, address, 4) else {
@@ -231,7 +227,9 @@ pub fn step_write<B: Bytes>(
             let Some(word) = frame.stack.pop() else {
                 return Err(Trap::BadCode);
             };
-            store(memory, objects, kind, top, word)?;
+            if let Err(trap) = store(memory, objects, kind, top, word) {
+                return Err(trap);
+            }
         }
         Writing::Copy(size) => {
             let Some(from) = frame.stack.pop() else {
