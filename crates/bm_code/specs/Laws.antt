@@ -13,3 +13,7 @@ Compose code world =
 -- a run has one end
 abbrev pub EndInOneWay : MachineCode → World → Type 0
 EndInOneWay code world = (j : ℕ) (p : Process) (r s : Final) → RunsTo code world j p r → RunsTo code world j p s → r ≡ s
+
+-- each run ends, whatever the code and the process
+abbrev pub AlwaysEnd : MachineCode → World → Type 0
+AlwaysEnd code world = (ticks : ℕ) (p : Process) → (r : Final) × RunsTo code world ticks p r

@@ -7,4 +7,5 @@ pub mod Transfers
 pub mod Services
 pub mod Step
 pub mod Run
+pub mod Measure
 pub mod Laws

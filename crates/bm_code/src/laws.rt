@@ -1,13 +1,14 @@
 // Laws of runs.
 
-ghost use Rattle.bm_code.specs.Laws.{Compose, EndInOneWay};
+ghost use Rattle.bm_code.specs.Laws.{AlwaysEnd, Compose, EndInOneWay};
 
 use crate::code::MachineCode;
 use crate::world::World;
 
-/// A run that pauses and a further run are one run of as many ticks, and a run ends in one way only.
+/// A run that pauses and a further run are one run of as many ticks, each run ends, and in one way only.
 pub fn runs(code: &MachineCode, world: &World)
     ensures compose { Compose code.now world.now }
+    ensures ends { AlwaysEnd code.now world.now }
     ensures one { EndInOneWay code.now world.now }
 {
     let _code = code;
