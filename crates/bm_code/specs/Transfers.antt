@@ -1,5 +1,5 @@
 -- Jumps, calls and returns.
-use Rattle.std.specs.Prelude.{ℕ, zero, suc, ◌+◌, ◌-◌, Bool, true, nat_eq, nat_lt, nat_le, if◌then◌else◌, List, [], ◌∷◌, ◌++◌, length, replicate, Option, Some, None, slice_get, unwrap_or, option_to_list}
+use Rattle.std.specs.Prelude.{ℕ, zero, suc, ◌+◌, ◌-◌, Bool, nat_eq, nat_lt, nat_le, if◌then◌else◌, List, [], ◌∷◌, ◌++◌, length, replicate, Option, Some, None, slice_get, unwrap_or, option_to_list}
 use Rattle.lu_base.specs.declared.trap.Trap.{Trap}
 use Rattle.lu_base.specs.declared.trap.Trap.TheVariants.{BadCode, BadCall, Depth}
 use Rattle.c_types.specs.declared.parts.Signature.{Signature}
@@ -46,9 +46,9 @@ pop_words (suc n) (v ∷ stack) words = pop_words n stack (v ∷ words)
 abbrev pub entered : MachineFunction → ℕ → List ℕ → Frame
 entered d g args = record { function = g; place = 0; locals = args ++ replicate (d.locals - length args) 0; stack = [] }
 
--- room for the result above the words that are left
+-- room for the words that are left, and for the result above them
 abbrev pub has_room : MachineFunction → Option ℕ → List ℕ → Bool
-has_room m None rest = true
+has_room m None rest = nat_le (length rest) m.height
 has_room m (Some t) rest = nat_lt (length rest) m.height
 
 -- how many functions may be under way

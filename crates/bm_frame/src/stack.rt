@@ -7,8 +7,8 @@ use lu_base::Memory;
 use std::alloc::Global;
 use std::marker::Model;
 
-/// How many words an operand stack may have.
-pub const GREATEST_HEIGHT: usize = 4096;
+/// How many words an operand stack has room for: the greatest height of a function, and a result that is given back.
+pub const STACK_ROOM: usize = 4097;
 
 /// An operand stack, which contracts see as its words with the top first. Its room is made at once.
 #[derive(Drop)]
@@ -23,7 +23,7 @@ impl Model for Stack {
 
     ghost view = { λ s. reverse s.words.items };
 
-    ghost invariant = { λ s. (vec_capacity s.words ≡ 4096) × (length s.words.items ≤ 4096) };
+    ghost invariant = { λ s. (vec_capacity s.words ≡ 4097) × (length s.words.items ≤ 4097) };
 }
 
 impl Stack {
@@ -31,14 +31,14 @@ impl Stack {
         ensures { IfOk result (λ stack. stack ≡ []) }
     {
         Ok(Stack {
-            words: Vec::with_capacity(alloc, GREATEST_HEIGHT)?,
+            words: Vec::with_capacity(alloc, STACK_ROOM)?,
         })
     }
 
     #[inline]
     pub fn len(&self) -> usize
         ensures count { result ≡ length self.now }
-        ensures bound { result ≤ 4096 }
+        ensures bound { result ≤ 4097 }
     {
         self.words.len()
     }
@@ -54,14 +54,14 @@ impl Stack {
     #[inline]
     pub fn pop(&mut self) -> Option<u64>
         ensures words { MatchOption result ((self.old ≡ []) × (self.new ≡ [])) (λ top. self.old ≡ top ∷ self.new) }
-        ensures room { MatchOption result (Unit {0}) (λ top. length self.new < 4096) }
+        ensures room { MatchOption result (Unit {0}) (λ top. length self.new < 4097) }
     {
         self.words.pop()
     }
 
     #[inline]
     pub fn push(&mut self, word: u64)
-        requires { length self.old < 4096 }
+        requires { length self.old < 4097 }
         ensures { self.new ≡ word ∷ self.old }
     {
         self.words.push_reserved(word);
@@ -76,7 +76,8 @@ impl Stack {
     /// The topmost words, the topmost last.
     pub fn last(&self, count: usize) -> &[u64]
         requires { count ≤ length self.now }
-        ensures { pop_words count self.now [] ≡ Some (result.now, drop count self.now) }
+        ensures words { pop_words count self.now [] ≡ Some (result.now, drop count self.now) }
+        ensures count { length result.now ≡ count }
     {
         let start = self.words.len() - count;
         &self.words[start..]

@@ -3,8 +3,8 @@ use Rattle.std.proofs.lemmas.List.{length-drop, length-reverse}
 use Rattle.bm_frame.proofs.Words.{last_words, take_all}
 use Rattle.bm_frame.proofs.stack.Stack.last.Goals as goal
 
-pub returns : goal.returns
-returns c =
+pub returns-clause-words : goal.returns-clause-words
+returns-clause-words c =
     let s = c.args.self.now in
     let n = c.args.count in
     let xs = c.deref.result.now in

@@ -1,0 +1,6 @@
+pub mod Opened
+pub mod Room
+pub mod View
+pub mod Spent
+pub mod Transferred
+pub mod Came

@@ -1,0 +1,6 @@
+//! Runs of the machine's code, over a process in memory.
+#![tactic(auto)]
+
+pub mod callers;
+pub mod calls;
+pub mod transfer;
