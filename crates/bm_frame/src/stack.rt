@@ -51,6 +51,15 @@ impl Stack {
         self.words.last().copied()
     }
 
+    /// The word under so many others.
+    pub fn under(&self, count: usize) -> Option<u64>
+        ensures { result ≡ slice_get self.now count }
+    {
+        let above = self.words.len().checked_sub(count)?;
+        let index = above.checked_sub(1)?;
+        Some(self.words[index])
+    }
+
     #[inline]
     pub fn pop(&mut self) -> Option<u64>
         ensures words { MatchOption result ((self.old ≡ []) × (self.new ≡ [])) (λ top. self.old ≡ top ∷ self.new) }

@@ -32,5 +32,6 @@ pub record IsFunction (code : MachineCode) (d : MachineFunction) : Type 0 where
   pub has : slice_get code.types.signatures d.signature ≡ Some signature
   pub arguments : length signature.params ≤ 256
 
-abbrev pub AreFunctions : MachineCode → Type 0
-AreFunctions code = (k : ℕ) (d : MachineFunction) → slice_get code.functions k ≡ Some d → IsFunction code d
+pub record IsSized (code : MachineCode) : Type 0 where
+  pub each : (k : ℕ) (d : MachineFunction) → slice_get code.functions k ≡ Some d → IsFunction code d
+  pub count : length code.functions < 2 ^ 32
