@@ -1,6 +1,5 @@
 -- Arithmetic on words of 64 bits, which are numbers below 2^64. A signed word is in two's complement.
 use Rattle.std.specs.Prelude.{ℕ, ◌+◌, ◌-◌, ◌*◌, ◌/◌, ◌%◌, ◌^◌, Bool, ◌||◌, nat_lt, nat_le, nat_eq, if◌then◌else◌, ℤ, int_lt, int_div, int_rem, bit_and, bit_or, bit_xor, List, [], ◌∷◌, slice_get, Option, Some, None, Result, Ok, Err}
-use Rattle.std.specs.Option.{option_map}
 use Rattle.std.specs.Int.{w8, w16, w32, w64, cast_signed, cast_unsigned, int_shr}
 use Rattle.lu_base.specs.declared.trap.Trap.{Trap}
 use Rattle.lu_base.specs.declared.trap.Trap.TheVariants.{DivZero, BadShift, BadIndex, BadCode}

@@ -73,7 +73,11 @@ fn divide_signed(a: u64, b: u64) -> Result<u64, Trap>
     if b == 0 {
         return Err(Trap::DivZero);
     }
-    Ok(a.cast_signed().wrapping_div(b.cast_signed()).cast_unsigned())
+    Ok(
+        a.cast_signed()
+            .wrapping_div(b.cast_signed())
+            .cast_unsigned(),
+    )
 }
 
 fn divide_unsigned(a: u64, b: u64) -> Result<u64, Trap>
@@ -91,7 +95,11 @@ fn remainder_signed(a: u64, b: u64) -> Result<u64, Trap>
     if b == 0 {
         return Err(Trap::DivZero);
     }
-    Ok(a.cast_signed().wrapping_rem(b.cast_signed()).cast_unsigned())
+    Ok(
+        a.cast_signed()
+            .wrapping_rem(b.cast_signed())
+            .cast_unsigned(),
+    )
 }
 
 fn remainder_unsigned(a: u64, b: u64) -> Result<u64, Trap>

@@ -7,3 +7,5 @@ mod unary;
 pub use binary::{Binary, combine};
 pub use unary::{Unary, int_kind, normalize, transform};
 
+#[cfg(test)]
+mod tests;

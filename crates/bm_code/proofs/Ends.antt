@@ -1,12 +1,12 @@
 -- Each run ends.
-use Rattle.std.proofs.Common.{◌≡◌, ◌∙◌, refl, ap, sym, subst, ℕ, zero, suc, ◌+◌, ◌*◌, ◌<◌, ◌≤◌, Option, Some, None, arith}
+use Rattle.std.proofs.Common.{◌≡◌, ◌∙◌, refl, ap, sym, subst, ℕ, zero, suc, ◌+◌, ◌*◌, ◌<◌, ◌≤◌, Some, arith}
 use Rattle.lu_base.specs.declared.trap.Trap.TheVariants.{Budget}
 use Rattle.bm_code.specs.declared.code.MachineCode.{MachineCode}
 use Rattle.bm_code.specs.declared.world.World.{World}
 use Rattle.bm_code.specs.Process.{Process}
 use Rattle.bm_code.specs.Transfers.{Effect, Next, Spends, Returns, Traps, idle}
 use Rattle.bm_code.specs.Step.{step_instruction}
-use Rattle.bm_code.specs.Run.{Returned, Trapped, Paused, Final, final, spend, onward, run_machine, RunsTo}
+use Rattle.bm_code.specs.Run.{Returned, Trapped, Paused, Final, final, spend, onward, run_machine}
 use Rattle.bm_code.specs.Measure.{ahead, longest, weight}
 use Rattle.bm_code.specs.Laws.{AlwaysEnd}
 use Rattle.bm_code.proofs.Falls.{Falls, step_falls}

@@ -1,5 +1,5 @@
 -- Each instruction leaves less to do, or spends a tick.
-use Rattle.std.proofs.Common.{◌≡◌, ◌∙◌, refl, ap, sym, subst, Bool, true, false, cond, ℕ, zero, suc, ◌+◌, ◌-◌, ◌*◌, ◌<◌, ◌≤◌, max, List, [], ◌∷◌, ◌++◌, length, Option, Some, None, Result, Ok, Err, arith, nat_lt, nat_le, nat_eq}
+use Rattle.std.proofs.Common.{◌≡◌, ◌∙◌, refl, ap, Bool, true, false, cond, ℕ, zero, suc, ◌+◌, ◌-◌, ◌<◌, ◌≤◌, max, List, [], ◌∷◌, ◌++◌, length, Option, Some, None, Result, Ok, Err, arith, nat_lt, nat_le, nat_eq}
 use Rattle.std.specs.Prelude.{slice_get, slice_set, option_to_list, ℤ, pos, negsuc, find, if◌then◌else◌, ◌%◌, ◌^◌}
 use Rattle.std.specs.Int.{w32, cast_signed}
 use Rattle.std.specs.Option.{option_map_or}
@@ -9,14 +9,13 @@ use Rattle.std.proofs.lemmas.Bool.Decides.{nat_tests}
 use Rattle.lu_spec.specs.Then.{then_do}
 use Rattle.lu_spec.specs.LittleEndian.{little_endian}
 use Rattle.lu_base.specs.declared.trap.Trap.{Trap}
-use Rattle.lu_base.specs.declared.trap.Trap.TheVariants.{BadCode, BadCall, BadFree, Depth, Panic as Panics}
+use Rattle.lu_base.specs.declared.trap.Trap.TheVariants.{BadCode, BadFree, Depth, Panic as Panics}
 use Rattle.c_types.specs.declared.parts.Signature.{Signature}
 use Rattle.bm_mem.specs.Content.{Content}
 use Rattle.bm_objects.specs.declared.row.Row.{Row}
 use Rattle.bm_alu.specs.Words.{combined, transformed, signed}
 use Rattle.bm_code.specs.declared.code.MachineCode.{MachineCode}
 use Rattle.bm_code.specs.declared.code.MachineFunction.{MachineFunction}
-use Rattle.bm_code.specs.declared.code.MachineSite.{MachineSite}
 use Rattle.bm_code.specs.declared.world.World.{World}
 use Rattle.bm_code.specs.declared.operation.Operation.{Operation}
 use Rattle.bm_code.specs.declared.operation.Operation.TheVariants as O
@@ -33,10 +32,10 @@ use Rattle.bm_code.specs.Process.{Frame, Activity, Idle, Starting, Running, Proc
 use Rattle.bm_code.specs.Access.{live_at, read_at, written_at, scalars, scalar_size}
 use Rattle.bm_code.specs.Frames.{some_or, on_top, on_two, moved, advanced, bad, pushed, with_local, stacked, on_word, on_words}
 use Rattle.bm_code.specs.Pointers.{pointed, read, with_active, wrote, written}
-use Rattle.bm_code.specs.Transfers.{Effect, Next, Spends, Returns, Traps, idle, trap, running, jump, is_place_of, pop_words, entered, has_room, frame_limit, enter, call, call_word, give_back, on_result, transferred}
+use Rattle.bm_code.specs.Transfers.{Effect, Next, Spends, Returns, Traps, trap, running, jump, is_place_of, pop_words, entered, has_room, frame_limit, enter, call, call_word, give_back, on_result, transferred}
 use Rattle.bm_code.specs.Services.{new_row, can_allocate, with_object, allocate, is_heap_start, without_object, free, message_bytes, message_of, answer, is_recipient, outbox_limit, send, served}
-use Rattle.bm_code.specs.Step.{on_frame, on_memory, act, fetched, step_in, step_instruction}
-use Rattle.bm_code.specs.Measure.{ahead_in, ahead_of, ahead_of_all, ahead, longest}
+use Rattle.bm_code.specs.Step.{on_frame, on_memory, act, fetched, step_in}
+use Rattle.bm_code.specs.Measure.{ahead_in, ahead_of, ahead, longest}
 
 -- at the next instruction of the same function
 abbrev pub IsOn : Frame → Frame → Type 0

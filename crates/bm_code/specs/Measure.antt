@@ -1,5 +1,5 @@
 -- How much a run can still do.
-use Rattle.std.specs.Prelude.{ℕ, ◌+◌, ◌-◌, ◌*◌, ◌<◌, ◌≤◌, max, List, [], ◌∷◌, length, Option, Some, None, slice_get}
+use Rattle.std.specs.Prelude.{ℕ, ◌+◌, ◌-◌, ◌*◌, max, List, [], ◌∷◌, length, Option, Some, None, slice_get}
 use Rattle.bm_code.specs.declared.code.MachineCode.{MachineCode}
 use Rattle.bm_code.specs.declared.code.MachineFunction.{MachineFunction}
 use Rattle.bm_code.specs.Process.{Frame, Activity, Idle, Starting, Running, Process}

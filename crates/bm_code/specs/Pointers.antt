@@ -1,5 +1,5 @@
 -- What instructions do with addresses, and with the bytes at them.
-use Rattle.std.specs.Prelude.{ℕ, zero, suc, ◌+◌, ◌-◌, ◌*◌, ◌/◌, ◌^◌, Bool, false, ◌&&◌, nat_eq, nat_lt, nat_le, max, if◌then◌else◌, ℤ, pos, negsuc, neg_ℤ, List, [], ◌∷◌, length, replicate, Option, Some, None, is_some, Result, Ok, Err, find, slice_get}
+use Rattle.std.specs.Prelude.{ℕ, zero, suc, ◌+◌, ◌-◌, ◌*◌, ◌/◌, ◌^◌, Bool, false, ◌&&◌, nat_eq, nat_lt, nat_le, max, if◌then◌else◌, ℤ, pos, negsuc, neg_ℤ, List, ◌∷◌, length, replicate, Option, Some, None, is_some, Result, Ok, Err, find, slice_get}
 use Rattle.std.specs.Option.{option_map}
 use Rattle.lu_spec.specs.LittleEndian.{little_endian}
 use Rattle.lu_spec.specs.Splice.{spliced}

@@ -1,21 +1,18 @@
 -- Allocation, messages and panics.
-use Rattle.std.specs.Prelude.{ℕ, zero, suc, ◌+◌, ◌-◌, ◌*◌, ◌%◌, ◌^◌, Bool, true, false, ◌&&◌, ◌||◌, nat_eq, nat_lt, nat_le, if◌then◌else◌, ℤ, pos, negsuc, int_le, List, [], ◌∷◌, ◌++◌, length, take, drop, replicate, Option, Some, None, is_some, find, slice_get}
+use Rattle.std.specs.Prelude.{ℕ, zero, suc, ◌+◌, ◌*◌, ◌%◌, ◌^◌, Bool, true, false, ◌&&◌, ◌||◌, nat_eq, nat_lt, nat_le, if◌then◌else◌, ℤ, pos, negsuc, int_le, List, [], ◌∷◌, ◌++◌, length, take, drop, replicate, Option, Some, None, is_some, find, slice_get}
 use Rattle.std.specs.List.{list_any}
-use Rattle.std.specs.Option.{option_map, option_map_or}
-use Rattle.std.specs.Int.{w32, w64, cast_signed}
+use Rattle.std.specs.Option.{option_map_or}
+use Rattle.std.specs.Int.{w32, cast_signed}
 use Rattle.std.specs.FinMap as map
 use Rattle.lu_spec.specs.Then.{then_option}
-use Rattle.lu_spec.specs.Splice.{piece_at}
 use Rattle.lu_base.specs.declared.message.Message.{Message}
-use Rattle.lu_base.specs.declared.trap.Trap.{Trap}
 use Rattle.lu_base.specs.declared.trap.Trap.TheVariants.{BadCode, BadFree, Panic as Panics}
 use Rattle.c_types.specs.declared.parts.TheConstants.{POINTER_SIZE}
 use Rattle.c_types.specs.Layout.{size_of}
 use Rattle.bm_objects.specs.declared.row.Row.{Row}
-use Rattle.bm_objects.specs.Table.{end_of, reaches, killed, address_after}
+use Rattle.bm_objects.specs.Table.{reaches, killed, address_after}
 use Rattle.bm_alu.specs.Words.{signed, of_signed}
 use Rattle.bm_code.specs.declared.code.MachineCode.{MachineCode}
-use Rattle.bm_code.specs.declared.code.MachineSite.{MachineSite}
 use Rattle.bm_code.specs.declared.operation.Service.{Service}
 use Rattle.bm_code.specs.declared.operation.Service.TheVariants.{Allocate, Free, Send, Panic}
 use Rattle.bm_code.specs.declared.world.World.{World}

@@ -1,8 +1,7 @@
 -- What one instruction does, apart from the counting of ticks.
-use Rattle.std.specs.Prelude.{ℕ, List, [], ◌∷◌, Option, Some, None, Result, Ok, Err, slice_get}
+use Rattle.std.specs.Prelude.{List, [], Some, None, Result, Ok, Err, slice_get}
 use Rattle.lu_base.specs.declared.trap.Trap.{Trap}
 use Rattle.lu_base.specs.declared.trap.Trap.TheVariants.{BadCode}
-use Rattle.bm_isa.specs.declared.instr.Instr.{Instr}
 use Rattle.bm_mem.specs.Content.{Content}
 use Rattle.bm_alu.specs.Words.{combined, transformed}
 use Rattle.bm_code.specs.declared.code.MachineCode.{MachineCode}
@@ -14,7 +13,7 @@ use Rattle.bm_code.specs.Kinds.{operation_of}
 use Rattle.bm_code.specs.Process.{Frame, Activity, Idle, Starting, Running, Process}
 use Rattle.bm_code.specs.Frames.{some_or, stacked, on_word, on_words}
 use Rattle.bm_code.specs.Pointers.{pointed, read, written}
-use Rattle.bm_code.specs.Transfers.{Effect, Next, Spends, Returns, Traps, idle, trap, running, entered, transferred}
+use Rattle.bm_code.specs.Transfers.{Effect, Next, Spends, Returns, Traps, trap, running, entered, transferred}
 use Rattle.bm_code.specs.Services.{served}
 
 -- what an instruction does that concerns the frame alone

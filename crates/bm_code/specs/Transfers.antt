@@ -7,7 +7,7 @@ use Rattle.bm_code.specs.declared.code.MachineCode.{MachineCode}
 use Rattle.bm_code.specs.declared.code.MachineFunction.{MachineFunction}
 use Rattle.bm_code.specs.declared.operation.Transfer.{Transfer}
 use Rattle.bm_code.specs.declared.operation.Transfer.TheVariants.{Jump, JumpIfZero, Call, CallIndirect, Return, ReturnValue}
-use Rattle.bm_code.specs.Process.{Frame, Activity, Idle, Running, Process}
+use Rattle.bm_code.specs.Process.{Frame, Idle, Running, Process}
 use Rattle.bm_code.specs.Frames.{some_or, on_top, moved}
 
 -- The process goes on; it goes on after a tick; the call returns; or it traps, and the process is as it is left.

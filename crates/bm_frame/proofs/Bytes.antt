@@ -1,21 +1,19 @@
 -- Bytes of live objects.
-use Rattle.std.proofs.Common.{◌≡◌, ◌∙◌, refl, ap, sym, subst, Bool, true, false, cond, ◌&&◌, ℕ, zero, suc, ◌+◌, ◌-◌, ◌*◌, ◌<◌, ◌≤◌, ◌^◌, List, [], ◌∷◌, ◌++◌, length, take, drop, replicate, Option, Some, None, arith, nat_le}
-use Rattle.std.specs.Prelude.{find, slice_get, is_some, MatchBool}
+use Rattle.std.proofs.Common.{◌≡◌, ◌∙◌, refl, ap, sym, subst, Bool, true, false, cond, ◌&&◌, ℕ, zero, suc, ◌+◌, ◌-◌, ◌*◌, ◌≤◌, List, [], ◌∷◌, ◌++◌, length, take, drop, replicate, Option, Some, None, arith, nat_le}
+use Rattle.std.specs.Prelude.{find, slice_get}
 use Rattle.std.specs.Int.{w64, from_le_bytes}
 use Rattle.std.specs.Option.{option_map}
-use Rattle.std.specs.FinMap.{get, insert}
+use Rattle.std.specs.FinMap.{get}
 use Rattle.std.proofs.lemmas.Bool.Decides.{nat_tests}
 use Rattle.std.proofs.lemmas.List.{length-take, length-take-le, length-drop}
 use Rattle.lu_spec.specs.Then.{then_option}
-use Rattle.lu_spec.specs.Splice.{piece_at, spliced}
-use Rattle.lu_spec.proofs.SpliceLemmas.{length-spliced}
-use Rattle.bm_mem.specs.Content.{Content, Holds, IsInside, IsRead, IsWritten}
-use Rattle.bm_mem.proofs.Laws.{get-insert_there, get-insert_else}
+use Rattle.lu_spec.specs.Splice.{piece_at}
+use Rattle.bm_mem.specs.Content.{Content, Holds, IsInside}
 use Rattle.bm_objects.specs.declared.row.Row.{Row}
-use Rattle.bm_objects.specs.Table.{end_of, reaches, IsTable}
+use Rattle.bm_objects.specs.Table.{end_of, reaches}
 use Rattle.bm_objects.proofs.TableLemmas.{found, reaches_is}
-use Rattle.bm_code.specs.Access.{live_at, read_at, changed, written_at, number_of}
-use Rattle.bm_frame.specs.Mapped.{HasObject, IsOfRow, IsMapped}
+use Rattle.bm_code.specs.Access.{live_at, read_at, number_of}
+use Rattle.bm_frame.specs.Mapped.{HasObject, IsMapped}
 
 eight : (bs : List ℕ) → length bs ≡ 8 → from_le_bytes w64 bs ≡ number_of bs
 eight (a ∷ b ∷ c ∷ d ∷ e ∷ f ∷ g ∷ h ∷ []) n = omega arith

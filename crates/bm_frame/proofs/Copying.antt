@@ -1,18 +1,16 @@
 -- Copies and zeros, chunk by chunk.
-use Rattle.std.proofs.Common.{◌≡◌, ◌≢◌, ◌∙◌, refl, ap, sym, subst, ◌⊎◌, inl, inr, Bool, true, false, cond, ℕ, zero, suc, ◌+◌, ◌-◌, ◌<◌, ◌≤◌, List, [], ◌∷◌, ◌++◌, length, take, drop, replicate, min, Some, None, arith, append_assoc}
+use Rattle.std.proofs.Common.{◌≡◌, ◌≢◌, ◌∙◌, refl, ap, sym, subst, ◌⊎◌, inl, inr, Bool, true, false, cond, ℕ, zero, suc, ◌+◌, ◌-◌, ◌≤◌, List, [], ◌∷◌, ◌++◌, length, take, drop, Some, arith, append_assoc}
 use Rattle.std.specs.FinMap.{get, insert, get-insert, same_map, nat_cmp-IsAntisymmetric}
-use Rattle.std.specs.Ordering.{nat_cmp}
 use Rattle.std.specs.Cmp.{nat_cmp_total}
 use Rattle.std.proofs.lemmas.Bool.{cases_eq}
-use Rattle.std.proofs.lemmas.List.{length-append, length-take, length-drop, length-take-le, drop-append-le, take-append-le, drop-take, take-take, drop-drop, drop_at, take-append-drop, length-replicate}
-use Rattle.std.proofs.lemmas.Grind.{common_steps}
+use Rattle.std.proofs.lemmas.List.{length-append, length-take, length-take-le, take-append-le, drop-take, take-take, drop-drop, drop_at, take-append-drop, length-replicate}
 use Rattle.lu_spec.specs.Splice.{piece_at, spliced}
 use Rattle.lu_spec.proofs.SpliceLemmas.{length-piece_at, length-spliced, piece_at-spliced_before, piece_at-spliced_after}
 use Rattle.bm_mem.specs.Content.{Content, Holds, IsInside, IsWritten}
-use Rattle.bm_mem.proofs.Entries.{same_address, equal_address, address_refl}
+use Rattle.bm_mem.proofs.Entries.{same_address}
 use Rattle.bm_mem.proofs.Laws.{get-insert_there, get-insert_else}
 use Rattle.bm_mem.proofs.ObjectLemmas.{nothing_written}
-use Rattle.bm_frame.proofs.Bytes.{zero_bytes, zeros_left, piece_length}
+use Rattle.bm_frame.proofs.Bytes.{zero_bytes, piece_length}
 
 pub insert_twice : (m : Content) (k : ℕ) (a b : List ℕ) → insert (insert m k a) k b ≡ insert m k b
 insert_twice m k a b =

@@ -1,11 +1,11 @@
 -- Whether a place fits, as a test.
-use Rattle.std.proofs.Common.{◌≡◌, ◌∙◌, refl, ap, sym, Bool, true, false, ℕ, ◌<◌, List, length, Option, Some, None}
+use Rattle.std.proofs.Common.{◌≡◌, refl, ap, sym, Bool, true, false, ℕ, ◌<◌, List, length, Option, Some, None}
 use Rattle.std.specs.Prelude.{is_some, MatchBool}
 use Rattle.c_types.specs.declared.parts.Parts.{Parts}
 use Rattle.c_types.specs.declared.path.Step.{Step}
 use Rattle.c_types.proofs.Alignment.{IsAlignment}
 use Rattle.c_types.specs.Refusal.{IsBuilt}
-use Rattle.c_types.specs.Place.{IsPlaceAt, HasPlaceAt, HasNoPlaceAt}
+use Rattle.c_types.specs.Place.{HasPlaceAt, HasNoPlaceAt}
 use Rattle.c_types.specs.Descent.{find_place}
 use Rattle.c_types.proofs.ObjectLaws.{find_place-path, find_place-sound}
 

@@ -1,7 +1,6 @@
 -- What the search by address finds.
-use Rattle.std.proofs.Common.{◌≡◌, ◌∙◌, refl, ap, sym, subst, Bool, true, false, cond, ℕ, zero, suc, ◌+◌, ◌-◌, ◌<◌, ◌≤◌, ◌^◌, List, [], ◌∷◌, length, Option, Some, None, arith, nat_le}
-use Rattle.std.specs.Prelude.{find, slice_get, All, IfSome, slice_index_or}
-use Rattle.std.proofs.lemmas.Bool.Decides.{nat_tests}
+use Rattle.std.proofs.Common.{◌≡◌, refl, sym, subst, ℕ, zero, suc, ◌+◌, ◌<◌, ◌≤◌, ◌^◌, List, [], ◌∷◌, Option, Some, None, arith}
+use Rattle.std.specs.Prelude.{find, slice_get, All, IfSome}
 use Rattle.bm_objects.specs.declared.row.Row.{Row}
 use Rattle.bm_objects.specs.Table.{end_of, reaches, IsTable}
 use Rattle.bm_objects.proofs.TableLemmas.{found, reaches_is}

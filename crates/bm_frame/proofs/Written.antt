@@ -1,5 +1,5 @@
 -- What writes leave.
-use Rattle.std.proofs.Common.{◌≡◌, ◌≢◌, ◌∙◌, refl, ap, sym, subst, ◌⊎◌, inl, inr, Bool, true, false, cond, ◌&&◌, ℕ, zero, suc, ◌+◌, ◌-◌, ◌*◌, ◌/◌, ◌%◌, ◌^◌, ◌<◌, ◌≤◌, List, [], ◌∷◌, ◌++◌, length, take, drop, replicate, max, Option, Some, None, Result, Ok, Err, arith, nat_le, nat_eq}
+use Rattle.std.proofs.Common.{◌≡◌, ◌≢◌, ◌∙◌, refl, ap, sym, subst, ◌⊎◌, inl, inr, Bool, true, false, cond, ◌&&◌, ℕ, zero, suc, ◌+◌, ◌-◌, ◌≤◌, List, ◌∷◌, length, take, replicate, max, Option, Some, None, Result, Ok, Err, arith, nat_le, nat_eq}
 use Rattle.std.specs.Prelude.{find, slice_get}
 use Rattle.std.specs.Option.{option_map}
 use Rattle.std.specs.Int.{byte_at, bytes_low_first}
@@ -22,7 +22,7 @@ use Rattle.bm_code.specs.Frames.{some_or, on_two, bad}
 use Rattle.bm_code.specs.Access.{live_at, read_at, changed, written_at, number_of, Scalar, scalars, scalar_size}
 use Rattle.bm_code.specs.Pointers.{with_member, with_active, wrote, written}
 use Rattle.bm_frame.specs.Mapped.{HasObject, IsOfRow, IsMapped, or_bad}
-use Rattle.bm_frame.proofs.Bytes.{IsLive, is_live, row, object, bytes, got, holds, piece_there, piece_long, zero_bytes}
+use Rattle.bm_frame.proofs.Bytes.{row, bytes, got, holds, piece_there, piece_long, zero_bytes}
 use Rattle.bm_frame.proofs.Copying.{IsCopied, holds_part, insert_twice, target}
 
 some_in : {A : Type 0} (a b : A) → Some a ≡ Some b → a ≡ b

@@ -1,5 +1,5 @@
 -- Memory that has the live objects of a table.
-use Rattle.std.specs.Prelude.{◌≡◌, ℕ, ◌<◌, Bool, true, List, length, Option, Some, Result, Ok, slice_get}
+use Rattle.std.specs.Prelude.{◌≡◌, ℕ, ◌<◌, true, List, length, Option, Some, Result, Ok, slice_get}
 use Rattle.std.specs.FinMap.{get}
 use Rattle.lu_base.specs.declared.trap.Trap.{Trap}
 use Rattle.c_types.specs.declared.parts.Parts.{Parts}

@@ -1,5 +1,5 @@
 -- The frame of the definitions that a frame in memory stands for.
-use Rattle.std.specs.Prelude.{◌≡◌, ℕ, List, Result, Ok, Err}
+use Rattle.std.specs.Prelude.{◌≡◌, Result, Ok, Err}
 use Rattle.lu_base.specs.declared.trap.Trap.{Trap}
 use Rattle.bm_code.specs.Process.{Frame}
 use Rattle.bm_frame.specs.declared.frame.Frame.{Frame as FrameParts}

@@ -7,4 +7,6 @@ pub mod locals;
 pub mod memory;
 pub mod pointer;
 pub mod stack;
+#[cfg(test)]
+mod tests;
 pub mod writing;

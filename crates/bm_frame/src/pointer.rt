@@ -144,11 +144,7 @@ fn point(operation: Pointing, objects: &Objects, p: u64, q: u64) -> Result<u64, 
 }
 
 /// Puts one word for the two topmost, of which the lower is a pointer.
-pub fn step_pointers(
-    operation: Pointing,
-    objects: &Objects,
-    frame: &mut Frame,
-) -> Result<(), Trap>
+pub fn step_pointers(operation: Pointing, objects: &Objects, frame: &mut Frame) -> Result<(), Trap>
     requires { frame.old.place + 1 < 2 ^ 64 }
     ensures { Leaves result (on_words (pointed operation objects.now) (frame_of frame.old)) (frame_of frame.new) }
 {

@@ -140,7 +140,12 @@ fn put_number<B: Bytes>(
     ensures mapped { IsMapped (B.content memory.new) objects.now }
     ensures kept { OnErr result (B.content memory.new ≡ B.content memory.old) }
 {
-    put_piece(memory, objects, address, &word.to_le_bytes()[..size as usize])
+    put_piece(
+        memory,
+        objects,
+        address,
+        &word.to_le_bytes()[..size as usize],
+    )
 }
 
 fn copy<B: Bytes>(

@@ -1,9 +1,7 @@
 -- Jumps and calls.
-use Rattle.std.proofs.Common.{◌≡◌, ◌≢◌, ◌∙◌, refl, ap, sym, subst, Bool, true, false, cond, ℕ, zero, suc, ℤ, ◌+◌, ◌-◌, ◌<◌, ◌≤◌, List, [], ◌∷◌, length, map, drop, Option, Some, None, arith, nat_lt, nat_le, nat_eq}
+use Rattle.std.proofs.Common.{◌≡◌, ◌≢◌, ◌∙◌, refl, ap, sym, subst, Bool, true, false, cond, ℕ, zero, suc, ◌+◌, ◌<◌, List, [], ◌∷◌, length, drop, Option, Some, None, arith, nat_lt, nat_eq}
 use Rattle.std.specs.Prelude.{slice_get, if◌then◌else◌}
 use Rattle.std.proofs.lemmas.Bool.Decides.{nat_tests}
-use Rattle.lu_base.specs.declared.message.Message.{Message}
-use Rattle.lu_base.specs.declared.trap.Trap.{Trap}
 use Rattle.lu_base.specs.declared.trap.Trap.TheVariants.{BadCode, BadCall}
 use Rattle.c_types.specs.declared.parts.Signature.{Signature}
 use Rattle.bm_code.specs.declared.code.MachineCode.{MachineCode}

@@ -1,17 +1,17 @@
 -- From what an instruction does to what its step answers.
-use Rattle.std.proofs.Common.{◌≡◌, ◌∙◌, refl, ap, sym, subst, Bool, true, false, cond, ℕ, zero, suc, ℤ, ◌+◌, ◌-◌, ◌<◌, ◌≤◌, List, [], ◌∷◌, length, map, drop, Option, Some, None, arith, nat_lt, nat_le}
+use Rattle.std.proofs.Common.{◌≡◌, ◌∙◌, refl, ap, sym, subst, true, false, cond, ℕ, zero, suc, ℤ, ◌+◌, ◌-◌, ◌<◌, ◌≤◌, List, [], ◌∷◌, length, map, drop, Option, Some, None, arith, nat_lt}
 use Rattle.std.proofs.lemmas.Bool.Decides.{nat_tests}
 use Rattle.std.proofs.lemmas.List.{length-map, length-drop}
 use Rattle.lu_base.specs.declared.message.Message.{Message}
 use Rattle.lu_base.specs.declared.trap.Trap.{Trap}
-use Rattle.lu_base.specs.declared.trap.Trap.TheVariants.{Budget, BadCode, Depth}
+use Rattle.lu_base.specs.declared.trap.Trap.TheVariants.{BadCode, Depth}
 use Rattle.c_types.specs.declared.parts.Signature.{Signature}
 use Rattle.bm_mem.specs.Content.{Content}
 use Rattle.bm_objects.specs.declared.row.Row.{Row}
 use Rattle.bm_code.specs.declared.code.MachineFunction.{MachineFunction}
-use Rattle.bm_code.specs.Process.{Frame, Activity, Running, Process}
+use Rattle.bm_code.specs.Process.{Running, Process}
 use Rattle.bm_code.specs.Frames.{moved}
-use Rattle.bm_code.specs.Transfers.{Effect, Next, Spends, Returns, Traps, idle, trap, running, pop_words, entered, has_room, enter}
+use Rattle.bm_code.specs.Transfers.{Effect, Next, Spends, trap, running, pop_words, entered, has_room, enter}
 use Rattle.bm_frame.specs.declared.frame.Frame.{Frame as FrameParts}
 use Rattle.bm_frame.specs.View.{frame_of}
 use Rattle.bm_run.specs.declared.calls.Mode.TheVariants as M
@@ -19,9 +19,9 @@ use Rattle.bm_run.specs.declared.calls.Calls.{Calls}
 use Rattle.bm_run.specs.declared.calls.Stop.{Stop}
 use Rattle.bm_run.specs.declared.calls.Stop.TheVariants as S
 use Rattle.bm_run.specs.View.{activity_in, process_in}
-use Rattle.bm_run.specs.Spent.{IsSpent, with_mode, with_spare}
-use Rattle.bm_run.specs.Opened.{IsOpened, IsEntered}
-use Rattle.bm_run.specs.Came.{Came, HasSpent}
+use Rattle.bm_run.specs.Spent.{IsSpent, with_mode}
+use Rattle.bm_run.specs.Opened.{IsEntered}
+use Rattle.bm_run.specs.Came.{Came}
 
 some_in : {A : Type 0} (a b : A) → Some a ≡ Some b → a ≡ b
 some_in a b h = cc

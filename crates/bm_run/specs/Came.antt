@@ -1,13 +1,12 @@
 -- What a step answers, against what the instruction does.
 use Rattle.std.specs.Prelude.{◌≡◌, ℕ, suc, ◌<◌, ◌≤◌, ◌+◌, length, Option, Some, None}
-use Rattle.lu_base.specs.declared.trap.Trap.{Trap}
 use Rattle.lu_base.specs.declared.trap.Trap.TheVariants.{Budget}
 use Rattle.bm_code.specs.declared.code.MachineCode.{MachineCode}
 use Rattle.bm_code.specs.declared.world.World.{World}
 use Rattle.bm_code.specs.Process.{Process}
 use Rattle.bm_code.specs.Transfers.{Effect, Next, Spends, Returns, Traps, idle}
 use Rattle.bm_code.specs.Step.{step_instruction}
-use Rattle.bm_code.specs.Run.{Ending, Returned, Trapped, Paused, Final, final, RunsTo}
+use Rattle.bm_code.specs.Run.{Returned, Trapped, Paused, Final, final, RunsTo}
 use Rattle.bm_run.specs.declared.calls.Stop.{Stop}
 use Rattle.bm_run.specs.declared.calls.Stop.TheVariants as S
 

@@ -1,7 +1,6 @@
 -- The process that the parts of one in memory stand for.
-use Rattle.std.specs.Prelude.{ℕ, ℤ, List, map, Option}
+use Rattle.std.specs.Prelude.{ℕ, ℤ, List, map}
 use Rattle.lu_base.specs.declared.message.Message.{Message}
-use Rattle.lu_base.specs.declared.trap.Trap.{Trap}
 use Rattle.bm_mem.specs.Content.{Content}
 use Rattle.bm_objects.specs.declared.row.Row.{Row}
 use Rattle.bm_code.specs.Process.{Frame, Activity, Idle, Starting, Running, Process}

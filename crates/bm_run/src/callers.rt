@@ -47,7 +47,14 @@ fn make_frames(alloc: Global) -> Result<Vec<Frame>, Memory>
 
 /// Makes a frame that of a function at its entry. The arguments are taken off the caller's stack, which then loses
 /// `below` words more and goes on at the next instruction.
-fn open(fresh: &mut Frame, caller: &mut Frame, function: u32, locals: u32, arguments: usize, below: usize)
+fn open(
+    fresh: &mut Frame,
+    caller: &mut Frame,
+    function: u32,
+    locals: u32,
+    arguments: usize,
+    below: usize,
+)
     requires place { caller.old.place + 1 < 2 ^ 64 }
     requires locals { locals ≤ 256 }
     requires arguments { arguments ≤ 256 }
@@ -81,7 +88,14 @@ impl Callers {
     }
 
     /// Lets the function at its entry run, and its caller wait.
-    pub fn enter(&mut self, frame: &mut Frame, function: u32, locals: u32, arguments: usize, below: usize)
+    pub fn enter(
+        &mut self,
+        frame: &mut Frame,
+        function: u32,
+        locals: u32,
+        arguments: usize,
+        below: usize,
+    )
         requires room { length self.old < 127 }
         requires place { frame.old.place + 1 < 2 ^ 64 }
         requires locals { locals ≤ 256 }

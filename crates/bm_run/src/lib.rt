@@ -3,4 +3,6 @@
 
 pub mod callers;
 pub mod calls;
+#[cfg(test)]
+mod tests;
 pub mod transfer;

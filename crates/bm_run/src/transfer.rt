@@ -189,7 +189,9 @@ fn call(
     if arguments > calls.frame.stack.len() {
         return stop_by(calls, Trap::BadCode);
     }
-    enter(function, calls, left, number, callee, signature, arguments, 0)
+    enter(
+        function, calls, left, number, callee, signature, arguments, 0,
+    )
 }
 
 fn call_indirect(
@@ -222,7 +224,16 @@ fn call_indirect(
     if signature.params.as_slice().len() != arguments {
         return stop_by(calls, Trap::BadCode);
     }
-    enter(function, calls, left, number as u32, callee, signature, arguments, 1)
+    enter(
+        function,
+        calls,
+        left,
+        number as u32,
+        callee,
+        signature,
+        arguments,
+        1,
+    )
 }
 
 /// Whether a function has a result; nothing where it has no signature.

@@ -1,4 +1,3 @@
-use Rattle.std.proofs.Common.{subst}
 use Rattle.c_types.proofs.Alignment.{four_bytes}
 use Rattle.bm_frame.proofs.Places.{decided}
 use Rattle.bm_frame.proofs.memory.fits.Goals as goal

@@ -1,7 +1,4 @@
-use Rattle.std.proofs.Common.{◌≡◌, ◌≤◌, ◌+◌, ◌-◌, ◌∙◌, ap, sym, arith, refl, [], ℕ, List, take, drop, length}
-use Rattle.std.specs.FinMap.{insert}
-use Rattle.lu_spec.specs.Splice.{piece_at, spliced}
-use Rattle.bm_mem.proofs.ObjectLemmas.{nothing_written}
+use Rattle.std.proofs.Common.{◌≡◌, ◌+◌, ◌-◌, arith}
 use Rattle.bm_frame.proofs.Copying.{from_inside_down, to_inside_down, copied_down, nothing_down, all_down}
 use Rattle.bm_frame.proofs.writing.copy_down.Goals as goal
 

@@ -1,4 +1,4 @@
-use Rattle.std.proofs.Common.{◌≡◌, ◌≢◌, ◌∙◌, ◌≤◌, ◌<◌, ◌+◌, ◌-◌, ℕ, suc, zero, ap, sym, map, length, arith, refl, [], ◌∷◌}
+use Rattle.std.proofs.Common.{◌≡◌, ◌≢◌, ◌∙◌, ◌-◌, ℕ, suc, zero, ap, sym, map, length, arith, refl, [], ◌∷◌}
 use Rattle.std.proofs.lemmas.Option.{slice_get_within}
 use Rattle.bm_frame.specs.View.{frame_of}
 use Rattle.bm_run.specs.View.{process_in}

@@ -1,4 +1,4 @@
-use Rattle.std.proofs.Common.{◌≡◌, ◌≤◌, ◌<◌, ◌∙◌, ◌-◌, sym, ap, drop, length, true, false, arith}
+use Rattle.std.proofs.Common.{◌≡◌, ◌≤◌, ◌<◌, ◌∙◌, ◌-◌, sym, ap, drop, length, true, arith}
 use Rattle.bm_code.specs.Transfers.{has_room}
 use Rattle.bm_run.proofs.Came.{left_long, no_room, too_deep, enters, entered_process, came_trapped, came_stopped, came_spent}
 use Rattle.bm_run.proofs.transfer.enter.Goals as goal
