@@ -1,0 +1,4 @@
+//! The objects of a process and their memory.
+#![tactic(auto)]
+
+pub mod space;
