@@ -1,16 +1,17 @@
 // The objects of a process and their memory.
 
-ghost use Rattle.std.specs.Prelude.{◌≡◌, ◌+◌, ◌<◌, ◌≤◌, ◌^◌, [], ◌∷◌, ◌++◌, ℕ, List, true, false, length, replicate, All, None, IfSome, MatchOption, MatchResult, OnOk, OnErr};
-ghost use Rattle.std.specs.FinMap.{get, insert};
+ghost use Rattle.std.specs.Prelude.{◌≡◌, ◌+◌, ◌<◌, ◌≤◌, ◌^◌, [], ◌∷◌, ◌++◌, ℕ, List, true, false, length, replicate, All, Any, IsSome, None, IfSome, MatchOption, MatchResult, OnOk, OnErr};
+ghost use Rattle.std.specs.FinMap.{get, insert, remove};
 ghost use Rattle.c_types.specs.declared.parts.TheConstants.{POINTER_SIZE};
 ghost use Rattle.c_types.specs.Layout.{size_of};
 ghost use Rattle.bm_mem.specs.Content.{IsClear};
 ghost use Rattle.bm_objects.specs.declared.row.Row.{Row as RowValue};
-ghost use Rattle.bm_objects.specs.Table.{end_of, address_after};
+ghost use Rattle.bm_objects.specs.Table.{end_of, address_after, killed};
 ghost use Rattle.bm_code.specs.Services.{heap_bytes, new_row, can_allocate};
-ghost use Rattle.bm_space.specs.Space.{IsSpace, IsAllocated, IsRefused};
+ghost use Rattle.bm_space.specs.Space.{IsSpace, IsAllocated, IsRefused, IsFreed, is_heap_object};
 
 use bm_code::code::MachineCode;
+use bm_frame::pointer::find_row;
 use bm_mem::Bytes;
 use bm_objects::{Objects, Row};
 use lu_base::Memory;
@@ -126,4 +127,39 @@ pub fn allocate<B: Bytes>(
     };
     put_object(space, row)?;
     Ok(row.addr as u64)
+}
+
+/// Frees the live object of the heap that begins at an address; whether there is one.
+pub fn free<B: Bytes>(code: &MachineCode, space: &mut Space<B>, address: u64) -> bool
+    requires { IsSpace code.now.types (B.content space.old.memory) space.old.objects space.old.next space.old.used }
+    ensures space { IsSpace code.now.types (B.content space.new.memory) space.new.objects space.new.next space.new.used }
+    ensures is { result ≡ is_heap_object space.old.objects address }
+    ensures freed { IsFreed result address (B.content space.old.memory) space.old.objects (B.content space.new.memory) space.new.objects }
+    ensures next { space.new.next ≡ space.old.next }
+{
+    let _code = code;
+    let _count = space.objects.len();
+    let Some(row) = find_row(&space.objects, address) else {
+        return false;
+    };
+    if row.addr as u64 != address || !row.live || row.site.is_none() {
+        return false;
+    }
+    take_object(space, row);
+    true
+}
+
+/// Takes the object of a row away.
+fn take_object<B: Bytes>(space: &mut Space<B>, row: Row)
+    requires begins { Any (λ r. r.addr ≡ row.addr) space.old.objects }
+    requires mapped { IsSome (get (B.content space.old.memory) row.addr) }
+    requires used { row.size ≤ space.old.used }
+    ensures memory { B.content space.new.memory ≡ remove (B.content space.old.memory) row.addr }
+    ensures objects { space.new.objects ≡ killed space.old.objects row.addr }
+    ensures next { space.new.next ≡ space.old.next }
+    ensures used { space.new.used + row.size ≡ space.old.used }
+{
+    space.objects.kill(row.addr);
+    space.memory.unmap(row.addr);
+    space.used -= row.size as u64;
 }
