@@ -1,6 +1,6 @@
 -- A space with one object less.
-use Rattle.std.proofs.Common.{◌≡◌, ◌≢◌, ◌∙◌, refl, ap, sym, subst, ◌⊎◌, inl, inr, Bool, true, false, cond, ◌&&◌, ℕ, zero, suc, ◌+◌, ◌-◌, ◌<◌, ◌≤◌, ◌^◌, List, [], ◌∷◌, length, map, get_or, Option, Some, None, arith, nat_eq, nat_lt}
-use Rattle.std.specs.Prelude.{slice_get, find, All, Any, IsSome, is_some, ◌==◌}
+use Rattle.std.proofs.Common.{◌≡◌, ◌≢◌, ◌∙◌, refl, ap, sym, subst, ◌⊎◌, inl, inr, Bool, true, false, cond, ◌&&◌, ℕ, zero, suc, ◌+◌, ◌<◌, ◌≤◌, List, [], ◌∷◌, Option, Some, None, arith, nat_lt}
+use Rattle.std.specs.Prelude.{slice_get, All, Any, IsSome, is_some, ◌==◌}
 use Rattle.std.specs.FinMap.{get, remove}
 use Rattle.std.proofs.lemmas.Bool.{cases_eq}
 use Rattle.std.proofs.lemmas.Bool.Decides.{nat_tests}
@@ -11,7 +11,7 @@ use Rattle.bm_mem.proofs.Laws.{get-remove_there, get-remove_else}
 use Rattle.bm_objects.specs.declared.row.Row.{Row}
 use Rattle.bm_objects.specs.Table.{end_of, killed_at, killed, IsTable}
 use Rattle.bm_code.specs.Services.{heap_part, heap_bytes}
-use Rattle.bm_frame.specs.Mapped.{HasObject, IsOfRow, IsMapped, AreKnown}
+use Rattle.bm_frame.specs.Mapped.{HasObject, IsOfRow, AreKnown}
 use Rattle.bm_space.specs.Space.{IsSpace}
 
 some_in : {A : Type 0} (a b : A) → Some a ≡ Some b → a ≡ b

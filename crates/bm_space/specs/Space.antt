@@ -1,5 +1,5 @@
 -- The objects of a process and their memory.
-use Rattle.std.specs.Prelude.{◌≡◌, ℕ, ◌+◌, ◌<◌, ◌≤◌, ◌^◌, Bool, true, false, MatchBool, List, [], ◌∷◌, ◌++◌, replicate, All, find}
+use Rattle.std.specs.Prelude.{◌≡◌, ℕ, ◌<◌, ◌^◌, Bool, true, false, MatchBool, List, [], ◌∷◌, ◌++◌, replicate, All, find}
 use Rattle.std.specs.Option.{option_map_or}
 use Rattle.std.specs.FinMap.{insert, remove}
 use Rattle.c_types.specs.declared.parts.Parts.{Parts}

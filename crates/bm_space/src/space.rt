@@ -3,6 +3,7 @@
 ghost use Rattle.std.specs.Prelude.{◌≡◌, ◌+◌, ◌<◌, ◌≤◌, ◌^◌, [], ◌∷◌, ◌++◌, ℕ, List, true, false, length, replicate, All, Any, IsSome, None, IfSome, MatchOption, MatchResult, OnOk, OnErr};
 ghost use Rattle.std.specs.FinMap.{get, insert, remove};
 ghost use Rattle.c_types.specs.declared.parts.TheConstants.{POINTER_SIZE};
+ghost use Rattle.c_types.specs.declared.parts.Parts.{Parts};
 ghost use Rattle.c_types.specs.Layout.{size_of};
 ghost use Rattle.bm_mem.specs.Content.{IsClear};
 ghost use Rattle.bm_objects.specs.declared.row.Row.{Row as RowValue};
@@ -15,6 +16,10 @@ use bm_frame::pointer::find_row;
 use bm_mem::Bytes;
 use bm_objects::{Objects, Row};
 use lu_base::Memory;
+use std::alloc::Global;
+
+/// The address of the first object.
+const FIRST_ADDRESS: u64 = 0x1000;
 
 /// How many bytes the live objects of the heap may have.
 const HEAP_LIMIT: u64 = 4_194_304;
@@ -31,6 +36,22 @@ pub struct Space<B: Bytes> {
     pub next: u64,
     /// How many bytes the live objects of the heap have.
     pub used: u64,
+}
+
+impl<B: Bytes> Space<B> {
+    /// No objects; the first stands at 0x1000.
+    pub fn fresh(alloc: Global) -> Self
+        ensures space { (types : Parts) → IsSpace types (B.content result.memory) result.objects result.next result.used }
+        ensures objects { result.objects ≡ [] }
+        ensures next { result.next ≡ 0x1000 }
+    {
+        Space {
+            memory: B::fresh(alloc),
+            objects: Objects::fresh(alloc),
+            next: FIRST_ADDRESS,
+            used: 0,
+        }
+    }
 }
 
 /// The row of so many new elements at the next address, if there may be such an object.

@@ -1,7 +1,7 @@
-use Rattle.std.proofs.Common.{◌≡◌, ◌∙◌, ◌<◌, ◌+◌, ◌^◌, true, ap, sym, subst, length, ℕ, arith}
+use Rattle.std.proofs.Common.{◌≡◌, ◌∙◌, ◌<◌, ◌+◌, ◌^◌, true, ap, sym, length, arith}
 use Rattle.bm_objects.specs.declared.row.Row.{Row}
 use Rattle.bm_code.specs.Services.{heap_part}
-use Rattle.bm_space.proofs.Added.{space_added, is_clear, is_fresh}
+use Rattle.bm_space.proofs.Added.{space_added}
 use Rattle.bm_space.proofs.space.allocate.Goals as goal
 
 pub returns-clause-space : goal.returns-clause-space
