@@ -1,4 +1,5 @@
 pub mod Opened
+pub mod Plain
 pub mod Room
 pub mod View
 pub mod Spent

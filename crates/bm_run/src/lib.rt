@@ -5,4 +5,5 @@ pub mod callers;
 pub mod calls;
 #[cfg(test)]
 mod tests;
+pub mod plain;
 pub mod transfer;
