@@ -5,3 +5,4 @@ pub mod View
 pub mod Spent
 pub mod Transferred
 pub mod Came
+pub mod Going

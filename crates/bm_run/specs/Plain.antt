@@ -8,7 +8,7 @@ use Rattle.bm_code.specs.declared.code.MachineCode.{MachineCode}
 use Rattle.bm_code.specs.declared.code.MachineFunction.{MachineFunction}
 use Rattle.bm_code.specs.declared.world.World.{World}
 use Rattle.bm_code.specs.declared.operation.Operation.{Operation}
-use Rattle.bm_code.specs.declared.operation.Operation.TheVariants.{OnStack, OnWord, OnWords, OnPointers, Reads, Writes, Transfers, Serves}
+use Rattle.bm_code.specs.declared.operation.Operation.TheVariants.{Transfers, Serves}
 use Rattle.bm_code.specs.Process.{Frame, Activity, Process}
 use Rattle.bm_code.specs.Transfers.{Effect, Next, trap, running}
 use Rattle.bm_code.specs.Step.{act}

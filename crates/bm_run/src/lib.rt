@@ -3,7 +3,7 @@
 
 pub mod callers;
 pub mod calls;
+pub mod plain;
 #[cfg(test)]
 mod tests;
-pub mod plain;
 pub mod transfer;
