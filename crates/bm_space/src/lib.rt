@@ -2,3 +2,5 @@
 #![tactic(auto)]
 
 pub mod space;
+#[cfg(test)]
+mod tests;
