@@ -1,0 +1,11 @@
+pub mod Kinds
+pub mod Process
+pub mod Access
+pub mod Frames
+pub mod Pointers
+pub mod Transfers
+pub mod Services
+pub mod Step
+pub mod Run
+pub mod Measure
+pub mod Laws

@@ -1,0 +1,6 @@
+pub mod Words
+pub mod Rows
+pub mod Bytes
+pub mod Places
+pub mod Copying
+pub mod Written

@@ -1,0 +1,30 @@
+// One function under way.
+
+ghost use Rattle.std.specs.Prelude.{◌≡◌, IfOk};
+
+use crate::locals::Locals;
+use crate::stack::Stack;
+use lu_base::Memory;
+use std::alloc::Global;
+
+/// A function under way, with room for any.
+#[derive(Drop)]
+pub struct Frame {
+    /// The number of the function.
+    pub function: u32,
+    /// The index of its next instruction.
+    pub place: usize,
+    pub locals: Locals,
+    pub stack: Stack,
+}
+
+impl Frame {
+    pub fn new(alloc: Global) -> Result<Frame, Memory> {
+        Ok(Frame {
+            function: 0,
+            place: 0,
+            locals: Locals::new(alloc)?,
+            stack: Stack::new(alloc)?,
+        })
+    }
+}

@@ -1,0 +1,67 @@
+// What is under way, and its ticks.
+
+ghost use Rattle.std.specs.Prelude.{◌≡◌, Some};
+ghost use Rattle.bm_run.specs.declared.calls.Mode.TheVariants as M;
+ghost use Rattle.bm_run.specs.declared.calls.Stop.TheVariants as S;
+ghost use Rattle.bm_run.specs.Spent.{IsSpent, with_mode};
+
+use crate::callers::Callers;
+use bm_frame::frame::Frame;
+use lu_base::Trap;
+
+/// Whether a call runs.
+#[derive(Clone, Copy, Debug, PartialEq, Eq)]
+pub enum Mode {
+    /// None does. The last one trapped so, or did not.
+    Idle(Option<Trap>),
+    /// One has begun: its function and its arguments are the frame's function and locals.
+    Starting,
+    Running,
+}
+
+/// Why a run stops.
+#[derive(Clone, Copy, Debug, PartialEq, Eq)]
+pub enum Stop {
+    /// The call returned this word, or 0 where it has no result.
+    Returned(u64),
+    Trapped(Trap),
+    /// The ticks that were given are spent, and another is needed.
+    Paused,
+    /// An allocation was refused. It is tried again by the next run.
+    Memory,
+}
+
+/// What is under way.
+#[derive(Drop)]
+pub struct Calls {
+    pub mode: Mode,
+    pub frame: Frame,
+    pub callers: Callers,
+    /// How many ticks the call may still use.
+    pub spare: u32,
+}
+
+/// Spends a tick, of the call and of the run; or says why there is none.
+pub fn spend(calls: &mut Calls, left: &mut u32) -> Option<Stop>
+    ensures { IsSpent calls.old left.old result calls.new left.new }
+{
+    if calls.spare == 0 {
+        calls.mode = Mode::Idle(Some(Trap::Budget));
+        return Some(Stop::Trapped(Trap::Budget));
+    }
+    if *left == 0 {
+        return Some(Stop::Paused);
+    }
+    calls.spare -= 1;
+    *left -= 1;
+    None
+}
+
+/// Ends the call by a trap.
+pub fn stop_by(calls: &mut Calls, trap: Trap) -> Option<Stop>
+    ensures result { result ≡ Some (S.Trapped trap) }
+    ensures calls { calls.new ≡ with_mode (M.Idle (Some trap)) calls.old }
+{
+    calls.mode = Mode::Idle(Some(trap));
+    Some(Stop::Trapped(trap))
+}
