@@ -1,7 +1,7 @@
 -- The items of a list, one by one.
-use Rattle.std.proofs.Common.{◌≡◌, ℕ, ◌+◌, ◌<◌, List, [], ◌∷◌, ◌++◌, length, get_or, drop, Bool, true, Result, Ok, Err, refl, sym, ◌∙◌, ap, arith}
+use Rattle.std.proofs.Common.{◌≡◌, ◌<◌, List, [], ◌∷◌, ◌++◌, length, get_or, drop, true, Result, Ok, refl, sym, ◌∙◌, ap, arith}
 use Rattle.lu_spec.specs.Then.{then_do}
-use Rattle.toml.specs.Data.{Data, Items, item, no_items}
+use Rattle.toml.specs.Data.{Data, item, no_items}
 use Rattle.toml.specs.View.{view, items_view}
 use Rattle.toml.specs.declared.value.Value.{Value}
 use Rattle.plan_file.specs.declared.error.PlanError.{PlanError}

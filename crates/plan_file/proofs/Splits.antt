@@ -1,5 +1,5 @@
 -- What stands before a byte and behind it.
-use Rattle.std.proofs.Common.{◌≡◌, ℕ, List, [], ◌∷◌, length, take, drop, Bool, true, false, nat_eq, if◌then◌else◌, refl, sym, ◌∙◌, ap, arith}
+use Rattle.std.proofs.Common.{◌≡◌, ℕ, List, [], ◌∷◌, length, take, drop, Bool, true, false, nat_eq, if◌then◌else◌, refl, ◌∙◌, ap, arith}
 use Rattle.plan_file.specs.Forms.{before_byte, after_byte}
 
 before_step : (r : Bool) (stop b : ℕ) (bs : List ℕ) → take (length (before_byte stop bs)) bs ≡ before_byte stop bs

@@ -12,6 +12,8 @@ mod read;
 mod rename;
 mod server;
 mod settings;
+#[cfg(test)]
+mod tests;
 mod update;
 
 pub use entries::Entries;
