@@ -1,7 +1,6 @@
 -- Events with those of the next line behind them.
-use Rattle.std.proofs.Common.{◌≡◌, ℕ, zero, suc, ◌<◌, ◌≤◌, ◌+◌, ◌-◌, Bool, true, false, nat_le, if◌then◌else◌, List, [], ◌∷◌, ◌++◌, length, Option, Some, None, Result, Ok, Err, refl, sym, ap, ◌∙◌, append_assoc, arith, length-append}
+use Rattle.std.proofs.Common.{◌≡◌, ℕ, zero, suc, ◌<◌, ◌≤◌, ◌+◌, Bool, true, false, nat_le, if◌then◌else◌, List, [], ◌∷◌, ◌++◌, length, Option, Some, None, Ok, Err, refl, sym, ap, ◌∙◌, arith, length-append}
 use Rattle.std.proofs.lemmas.Bool.Decides.{nat_tests}
-use Rattle.std.proofs.lemmas.List.{append-nil}
 use Rattle.lu_spec.specs.Then.{then_do}
 use Rattle.plan_file.specs.declared.plan.Plan.{Plan}
 use Rattle.sched_file.specs.declared.error.SchedError.{SchedError}
@@ -9,7 +8,6 @@ use Rattle.sched_file.specs.declared.error.SchedError.TheVariants as error
 use Rattle.sched_file.specs.declared.event.Event.{Event}
 use Rattle.sched_file.specs.declared.event.Event.TheVariants as event
 use Rattle.sched_file.specs.declared.line.Line.{Line}
-use Rattle.sched_file.specs.declared.line.Line.TheVariants as line
 use Rattle.sched_file.specs.Commands.{line_of}
 use Rattle.sched_file.specs.Schedule.{lines_of, limited, round_of, rounds_of, line_events, with_line, events_from, schedule_of, IsRefusal}
 

@@ -1,5 +1,5 @@
 -- The events of a schedule.
-use Rattle.std.specs.Prelude.{◌≡◌, ◌≤◌, ℕ, zero, suc, ◌+◌, List, [], ◌∷◌, ◌++◌, length, nat_eq, nat_le, Option, Some, None, Result, Ok, Err, if◌then◌else◌}
+use Rattle.std.specs.Prelude.{◌≡◌, ℕ, zero, suc, ◌+◌, List, [], ◌∷◌, ◌++◌, length, nat_eq, nat_le, Option, Some, None, Result, Ok, Err, if◌then◌else◌}
 use Rattle.lu_spec.specs.Then.{then_do}
 use Rattle.plan_file.specs.declared.plan.Plan.{Plan}
 use Rattle.sched_file.specs.declared.error.SchedError.{SchedError}

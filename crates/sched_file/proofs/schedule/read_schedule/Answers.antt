@@ -1,4 +1,4 @@
-use Rattle.std.proofs.Common.{◌≡◌, ◌+◌, ◌<◌, Err, [], ◌∷◌, length, sym, ◌∙◌, ap, arith}
+use Rattle.std.proofs.Common.{◌+◌, [], length, sym, ◌∙◌, ap, arith}
 use Rattle.sched_file.specs.Commands.{line_of}
 use Rattle.sched_file.specs.Schedule.{events_from, lines_of}
 use Rattle.sched_file.proofs.EventLemmas.{events_from-next, events_from-refused, events_from-end, schedule_of-start, with_line-few}
