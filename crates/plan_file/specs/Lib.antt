@@ -1,0 +1,9 @@
+pub mod Forms
+pub mod Handlers
+pub mod Keys
+pub mod Lookup
+pub mod Plans
+pub mod Renames
+pub mod Servers
+pub mod TextForms
+pub mod Updates

@@ -1,0 +1,24 @@
+//! Update plans: what servers there are, which updates they get, and the schedule's file, read from TOML.
+#![tactic(auto)]
+
+mod entries;
+mod error;
+mod form;
+mod handler;
+mod key;
+mod lookup;
+mod plan;
+mod read;
+mod rename;
+mod server;
+mod settings;
+#[cfg(test)]
+mod tests;
+mod update;
+
+pub use entries::Entries;
+pub use error::PlanError;
+pub use key::{Key, LimitedList};
+pub use lu_base::{Memory, Name};
+pub use plan::{Dangling, Handler, Plan, Rename, Server, Update};
+pub use read::read_plan;

@@ -1,0 +1,5 @@
+pub mod Bytes
+pub mod Commands
+pub mod Number
+pub mod Schedule
+pub mod Words
