@@ -6,3 +6,5 @@ pub mod Pointers
 pub mod Operators
 pub mod Expression
 pub mod Assignment
+pub mod Sending
+pub mod Call
