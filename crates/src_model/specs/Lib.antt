@@ -8,3 +8,6 @@ pub mod Expression
 pub mod Assignment
 pub mod Sending
 pub mod Call
+pub mod Initial
+pub mod Delivery
+pub mod Store
