@@ -1,1 +1,3 @@
-mod Examples
+mod IntegerExamples
+mod Sample
+mod RunExamples
