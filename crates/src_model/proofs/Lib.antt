@@ -1,3 +1,4 @@
 mod IntegerExamples
 mod Sample
 mod RunExamples
+mod TrapExamples

@@ -15,22 +15,7 @@ use Rattle.src_model.specs.declared.program.Program.{Program}
 use Rattle.src_model.specs.Sending.{World, Sent, zero_message}
 use Rattle.src_model.specs.Delivery.{Delivered, Ends, Dies, deliver, boot}
 use Rattle.src_model.specs.Initial.{initial_store}
-use Rattle.src_model.proofs.Sample.{program, world, num, long, expr, at, local, two, value, global, out_type, out_arg, in_source, set, set_local, reply}
-
-abbrev client : Message
-client = record zero_message { source = pos 100 }
-
--- what a delivery to the initial store gives: the trap or the sends, and the ticks
-data Seen : Type 0 where
-  sends : List Sent → ℕ → Seen
-  trap : Rattle.lu_base.specs.declared.trap.Trap.Trap → ℕ → Seen
-
-abbrev seen_of : Delivered → Seen
-seen_of (Ends store out n) = sends out n
-seen_of (Dies t n) = trap t n
-
-abbrev seen : Program → Seen
-seen p = seen_of (deliver p world (initial_store p) client)
+use Rattle.src_model.proofs.Sample.{program, world, num, long, expr, at, local, two, value, global, out_type, out_arg, in_source, set, set_local, reply, Seen, sends, trap, seen}
 
 -- m_out.type = 1; m_out.arg[0] = -7 / 2; .. ; send(m_in.source);
 abbrev integers : Program

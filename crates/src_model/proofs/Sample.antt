@@ -22,7 +22,11 @@ use Rattle.src_model.specs.declared.program.Global as G
 use Rattle.src_model.specs.declared.program.Function.{Function}
 use Rattle.src_model.specs.declared.program.Site.{Site}
 use Rattle.src_model.specs.declared.program.Program.{Program}
-use Rattle.src_model.specs.Sending.{World}
+use Rattle.lu_base.specs.declared.message.Message.{Message}
+use Rattle.lu_base.specs.declared.trap.Trap.{Trap}
+use Rattle.src_model.specs.Sending.{World, Sent, zero_message}
+use Rattle.src_model.specs.Delivery.{Delivered, Ends, Dies, deliver}
+use Rattle.src_model.specs.Initial.{initial_store}
 
 -- struct message, and struct node { int n; struct node *next; }
 abbrev pub message_fields : List FieldDef
@@ -128,3 +132,18 @@ program globals locals body more = record {
 
 abbrev pub world : World
 world = record { own = pos 1; servers = pos 1 ∷ pos 2 ∷ [] }
+
+abbrev pub client : Message
+client = record zero_message { source = pos 100 }
+
+-- what a delivery to the initial store gives: the trap or the sends, and the ticks
+pub data Seen : Type 0 where
+  sends : List Sent → ℕ → Seen
+  trap : Trap → ℕ → Seen
+
+abbrev pub seen_of : Delivered → Seen
+seen_of (Ends store out n) = sends out n
+seen_of (Dies t n) = trap t n
+
+abbrev pub seen : Program → Seen
+seen p = seen_of (deliver p world (initial_store p) client)
