@@ -2,3 +2,4 @@ mod IntegerExamples
 mod Sample
 mod RunExamples
 mod TrapExamples
+mod ByteExamples

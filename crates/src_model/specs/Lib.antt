@@ -11,3 +11,4 @@ pub mod Call
 pub mod Initial
 pub mod Delivery
 pub mod Store
+pub mod ValueBytes
