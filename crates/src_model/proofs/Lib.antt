@@ -3,3 +3,4 @@ mod Sample
 mod RunExamples
 mod TrapExamples
 mod ByteExamples
+pub mod Fuel

@@ -152,12 +152,13 @@ perform c Free vs s f =
 perform c Panics vs s f = with_gives (only_int vs) s (λ n. trapped (Panic n) s)
 
 -- a call, and what f does with its result: the callee first, then the arguments, then the checks
+abbrev pub call_of : Context → Text.Callee → List TypedExpr → State → (Option Value → State → Outcome) → Outcome
+call_of c (Pointer e) args s f =
+    with_gives (value_in c e s) s (λ g. with_gives (values_in c args s) s (λ vs. call_pointer c g vs s f))
+call_of c callee args s f = with_gives (values_in c args s) s (λ vs. perform c callee vs s f)
+
 abbrev pub call_in : Context → Text_call.Call → State → (Option Value → State → Outcome) → Outcome
-call_in c d s f = by_callee d.callee
-  where
-    by_callee : Text.Callee → Outcome
-    by_callee (Pointer e) = with_gives (value_in c e s) s (λ g. with_gives (values_in c d.args s) s (λ vs. call_pointer c g vs s f))
-    by_callee other = with_gives (values_in c d.args s) s (λ vs. perform c other vs s f)
+call_in c d s f = call_of c d.callee d.args s f
 
 -- a right side, and what f does with its value
 abbrev pub rhs_in : Context → Rhs → State → (Value → State → Outcome) → Outcome
