@@ -52,10 +52,7 @@ fn copy_inits(alloc: Global, inits: &[Init]) -> Result<Items<Init>, Memory>
     Ok(copies)
 }
 
-fn copy_globals(
-    alloc: Global,
-    globals: &[GlobalVariable],
-) -> Result<Items<GlobalVariable>, Memory>
+fn copy_globals(alloc: Global, globals: &[GlobalVariable]) -> Result<Items<GlobalVariable>, Memory>
     ensures { IfOk result (λ copies. copies ≡ globals.now) }
 {
     let mut copies = Items::new(alloc);

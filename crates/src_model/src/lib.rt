@@ -8,4 +8,6 @@ pub mod expr;
 pub mod first;
 pub mod program;
 pub mod stmt;
+#[cfg(test)]
+mod tests;
 pub mod value;

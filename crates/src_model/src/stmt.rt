@@ -58,12 +58,7 @@ pub enum TypedStmt {
     While(TypedExpr, Boxed<TypedStmt>),
     /// The first list has the assignment before the loop and the second the one after each turn, if there is one.
     /// A condition that isn't there is true.
-    For(
-        Items<TypedStmt>,
-        Option<TypedExpr>,
-        Items<TypedStmt>,
-        Boxed<TypedStmt>,
-    ),
+    For(Items<TypedStmt>, Option<TypedExpr>, Items<TypedStmt>, Boxed<TypedStmt>),
     Break,
     Continue,
     Return(Option<Rhs>),
