@@ -1,5 +1,5 @@
 -- Values laid out as bytes by computation.
-use Rattle.std.proofs.Common.{◌≡◌, refl, ℕ, ℤ, pos, negsuc, List, [], ◌∷◌, Some}
+use Rattle.std.proofs.Common.{◌≡◌, refl, pos, negsuc, [], ◌∷◌}
 use Rattle.src_model.specs.declared.value.Value.{Value, Int, Null, Pointer, Function, Struct, Array, Union}
 use Rattle.src_model.specs.declared.value.Value.TheBlock as V
 use Rattle.src_model.specs.ValueBytes.{bytes_of}

@@ -1,10 +1,8 @@
 -- Fuel above the ticks is enough: no call that has fewer ticks left than fuel is starved, and none leaves more ticks
 -- than it had.
-use Rattle.std.proofs.Common.{ℕ, zero, suc, ◌<◌, ◌≤◌, Bool, true, false, ℤ, pos, List, [], ◌∷◌, ◌++◌, map, Option, Some, None, Result, Ok, Err, arith}
+use Rattle.std.proofs.Common.{ℕ, zero, suc, ◌<◌, ◌≤◌, Bool, true, false, ℤ, pos, List, [], ◌∷◌, Option, Some, None, Ok, Err, arith}
 use Rattle.std.specs.Prelude.{slice_get, nat_lt}
-use Rattle.src_model.specs.declared.value.Value.{Value, Int, Null, Pointer, Function, Struct, Array, Union, out-Value}
-use Rattle.src_model.specs.declared.value.Value as Values
-use Rattle.src_model.specs.declared.value.Store.{Store}
+use Rattle.src_model.specs.declared.value.Value.{Value, Int, Null, Pointer, Function}
 use Rattle.src_model.specs.declared.expr.TypedExpr.{TypedExpr}
 use Rattle.src_model.specs.declared.expr.TypedPlace.{TypedPlace}
 use Rattle.src_model.specs.declared.stmt.Callee as Text
@@ -19,8 +17,8 @@ use Rattle.lu_base.specs.declared.trap.Trap.TheVariants.{BadCode}
 use Rattle.src_model.specs.Objects.{Gives, or_trap, value_at, allocated, freed}
 use Rattle.src_model.specs.Operators.{converted}
 use Rattle.src_model.specs.Assignment.{assigned}
-use Rattle.src_model.specs.Sending.{World, Sent, m_out, message_of, sent}
-use Rattle.src_model.specs.Call.{State, Ending, Returned, Trapped, Starved, Outcome, Goes_on, Breaks, Continues, Leaves, Callee, Context, with_gives, go_on, tick_at, tick, branch, test_in, test_of, resume, call_pointer, send, allocate, perform, call_of, rhs_in, declare, return_of, assign, after_turn, turns, run_statement, run_row, run_body, fall_off, with_store, with_local, value_in, values_in, only_value, only_int, zero_local, scope_of, context_of, entry_locals, enter, with_frame, call_with, greatest_depth}
+use Rattle.src_model.specs.Sending.{World, m_out, message_of, sent}
+use Rattle.src_model.specs.Call.{State, Ending, Returned, Trapped, Starved, Outcome, Goes_on, Breaks, Continues, Leaves, Callee, Context, with_gives, go_on, tick_at, tick, branch, test_in, test_of, resume, call_pointer, allocate, perform, call_of, rhs_in, declare, return_of, assign, after_turn, turns, run_statement, run_row, run_body, fall_off, with_store, value_in, values_in, only_value, only_int, zero_local, scope_of, context_of, entry_locals, enter, with_frame, call_with, greatest_depth}
 
 -- the end came before the fuel's, with no more than b ticks left
 abbrev pub IsWithin : ℕ → Ending → Type 0

@@ -1,10 +1,8 @@
 -- Worked examples of the definitions, by computation.
-use Rattle.std.proofs.Common.{◌≡◌, refl, ℕ, ℤ, pos, negsuc, List, [], ◌∷◌, Option, Some, None, Result, Ok, Err, true, false}
-use Rattle.c_types.specs.declared.parts.IntKind.TheVariants.{Char, UChar, Short, Int as Int_kind, UInt, LongLong, ULongLong}
+use Rattle.std.proofs.Common.{◌≡◌, refl, pos, negsuc, Ok, Err}
+use Rattle.c_types.specs.declared.parts.IntKind.TheVariants.{Char, UChar, Int as Int_kind, UInt, ULongLong}
 use Rattle.lu_base.specs.declared.trap.Trap.TheVariants.{DivZero, BadShift}
-use Rattle.src_model.specs.Integers.{wrapped, quotient, remainder, shifted_left, shifted_right, on_bits}
-use Rattle.src_model.specs.Assignment.{assigned}
-use Rattle.src_model.specs.Operators.{binary}
+use Rattle.src_model.specs.Integers.{wrapped, quotient, remainder, shifted_left, shifted_right}
 
 cut : wrapped UChar (pos 300) ≡ pos 44
 cut = refl

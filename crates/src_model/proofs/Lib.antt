@@ -4,3 +4,5 @@ mod RunExamples
 mod TrapExamples
 mod ByteExamples
 pub mod Fuel
+pub mod LayoutLengths
+pub mod PartBytes

@@ -1,16 +1,16 @@
 -- Programs run by computation.
-use Rattle.std.proofs.Common.{◌≡◌, refl, ℕ, ℤ, pos, negsuc, List, [], ◌∷◌, ◌++◌, Option, Some, None, true, false}
+use Rattle.std.proofs.Common.{◌≡◌, refl, ℕ, ℤ, pos, negsuc, List, [], ◌∷◌, ◌++◌, Some, None, true, false}
 use Rattle.lu_base.specs.declared.message.Message.{Message}
 use Rattle.lu_base.specs.declared.trap.Trap.TheVariants as X
 use Rattle.src_model.specs.declared.value.Value as V1
 use Rattle.src_model.specs.declared.value.Value.TheBlock as V
 use Rattle.src_model.specs.declared.expr.ExprKind.TheBlock as E
 use Rattle.src_model.specs.declared.stmt.TypedStmt.TheBlock as S
-use Rattle.src_model.specs.declared.expr.ExprKind.{ExprKind, Number, Local, Load, AddressOf, Decay, Convert, Cast, Binary, Unary}
+use Rattle.src_model.specs.declared.expr.ExprKind.{Number, Local, AddressOf, Decay, Convert, Cast, Unary}
 use Rattle.src_model.specs.declared.expr.BinaryOperator.TheVariants as B
 use Rattle.src_model.specs.declared.expr.UnaryOperator.TheVariants as U
-use Rattle.src_model.specs.declared.expr.PlaceKind.{Global, Deref, Arrow, Item, Element, Field, Member}
-use Rattle.src_model.specs.declared.stmt.TypedStmt.{TypedStmt, Assign, SetLocal, Call, If, For, While, Block, Declare, Break, Continue, Return}
+use Rattle.src_model.specs.declared.expr.PlaceKind.{Deref, Arrow, Item, Element, Field, Member}
+use Rattle.src_model.specs.declared.stmt.TypedStmt.{TypedStmt, Assign, SetLocal, Call, If, For, Block, Declare, Break, Continue, Return}
 use Rattle.src_model.specs.declared.stmt.Callee.TheVariants as C
 use Rattle.src_model.specs.declared.stmt.Rhs.TheVariants as R
 use Rattle.src_model.specs.declared.program.Function.{Function}
@@ -21,11 +21,8 @@ use Rattle.src_model.specs.declared.value.Object.{Object}
 use Rattle.src_model.specs.declared.value.Store.{Store}
 use Rattle.src_model.specs.declared.expr.TypedExpr.{TypedExpr}
 use Rattle.src_model.specs.declared.expr.TypedPlace.{TypedPlace}
-use Rattle.src_model.specs.Objects.{addresses, next_address, has_room}
-use Rattle.src_model.specs.Sending.{World, Sent, zero_message}
-use Rattle.src_model.specs.Delivery.{Delivered, Ends, Dies, deliver, boot}
-use Rattle.src_model.specs.Initial.{initial_store}
-use Rattle.src_model.proofs.Sample.{parts, program, world, num, long, expr, at, local, two, value, global, out_type, out_arg, in_source, set, set_local, reply, Seen, sends, trap, seen}
+use Rattle.src_model.specs.Objects.{addresses, has_room}
+use Rattle.src_model.proofs.Sample.{parts, program, num, long, expr, at, two, value, global, out_type, out_arg, set, set_local, reply, Seen, sends, trap, seen}
 
 -- m_out.type = 1; m_out.arg[0] = -7 / 2; .. ; send(m_in.source);
 abbrev integers : Program

@@ -1,26 +1,21 @@
 -- A table of types and short words for expressions, of which the worked examples are made.
-use Rattle.std.proofs.Common.{◌≡◌, refl, ℕ, ℤ, pos, negsuc, List, [], ◌∷◌, ◌++◌, Option, Some, None}
+use Rattle.std.proofs.Common.{ℕ, ℤ, pos, List, [], ◌∷◌, None}
 use Rattle.std.specs.Prelude.{codes}
 use Rattle.c_types.specs.declared.parts.Parts.{Parts}
 use Rattle.c_types.specs.declared.parts.FieldDef.{FieldDef}
-use Rattle.c_types.specs.declared.parts.Ty.{Ty}
 use Rattle.c_types.specs.declared.parts.Ty.TheVariants as T
 use Rattle.c_types.specs.declared.parts.IntKind.TheVariants as K
 use Rattle.src_model.specs.declared.expr.TypedExpr.{TypedExpr}
 use Rattle.src_model.specs.declared.expr.TypedPlace.{TypedPlace}
-use Rattle.src_model.specs.declared.expr.ExprKind.{ExprKind, Number, Local, Load, AddressOf, Convert, Cast, Binary}
+use Rattle.src_model.specs.declared.expr.ExprKind.{ExprKind, Number, Local, Load, Convert, Binary}
 use Rattle.src_model.specs.declared.expr.BinaryOperator.{BinaryOperator}
-use Rattle.src_model.specs.declared.expr.PlaceKind.{PlaceKind, Global, Deref, Arrow, Item, Element, Field, Member}
+use Rattle.src_model.specs.declared.expr.PlaceKind.{PlaceKind, Global, Element, Field}
 use Rattle.src_model.specs.declared.stmt.Callee.TheVariants as C
-use Rattle.src_model.specs.declared.stmt.Call as Text
-use Rattle.src_model.specs.declared.stmt.Rhs.{Rhs}
 use Rattle.src_model.specs.declared.stmt.Rhs.TheVariants as R
 use Rattle.src_model.specs.declared.stmt.TypedStmt.{TypedStmt, Assign, SetLocal, Call}
-use Rattle.src_model.specs.declared.program.Init.{Init}
 use Rattle.src_model.specs.declared.program.Init.TheVariants as I
 use Rattle.src_model.specs.declared.program.Global as G
 use Rattle.src_model.specs.declared.program.Function.{Function}
-use Rattle.src_model.specs.declared.program.Site.{Site}
 use Rattle.src_model.specs.declared.program.Program.{Program}
 use Rattle.lu_base.specs.declared.message.Message.{Message}
 use Rattle.lu_base.specs.declared.trap.Trap.{Trap}

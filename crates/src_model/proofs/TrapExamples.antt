@@ -1,26 +1,22 @@
 -- The smallest program for each trap, run by computation.
-use Rattle.std.proofs.Common.{◌≡◌, refl, ℕ, ℤ, pos, negsuc, List, [], ◌∷◌, ◌++◌, Option, Some, None}
-use Rattle.lu_base.specs.declared.message.Message.{Message}
+use Rattle.std.proofs.Common.{◌≡◌, refl, pos, negsuc, List, [], ◌∷◌}
 use Rattle.lu_base.specs.declared.trap.Trap.TheVariants as X
 use Rattle.src_model.specs.declared.value.Value as V1
 use Rattle.src_model.specs.declared.value.Value.TheBlock as V
 use Rattle.src_model.specs.declared.expr.ExprKind.TheBlock as E
 use Rattle.src_model.specs.declared.stmt.TypedStmt.TheBlock as S
-use Rattle.src_model.specs.declared.expr.ExprKind.{ExprKind, Number, Local, Load, AddressOf, Convert, Cast, Binary, Unary}
+use Rattle.src_model.specs.declared.expr.ExprKind.{AddressOf, Convert}
 use Rattle.src_model.specs.declared.expr.BinaryOperator.TheVariants as B
-use Rattle.src_model.specs.declared.expr.UnaryOperator.TheVariants as U
-use Rattle.src_model.specs.declared.expr.PlaceKind.{Global, Deref, Arrow, Item, Element, Field, Member}
-use Rattle.src_model.specs.declared.stmt.TypedStmt.{TypedStmt, Assign, SetLocal, Call, If, While, Block}
+use Rattle.src_model.specs.declared.expr.PlaceKind.{Deref, Field, Member}
+use Rattle.src_model.specs.declared.stmt.TypedStmt.{TypedStmt, Assign, Call, If, While, Block}
 use Rattle.src_model.specs.declared.stmt.Callee.TheVariants as C
 use Rattle.src_model.specs.declared.stmt.Rhs.TheVariants as R
 use Rattle.src_model.specs.declared.program.Program.{Program}
-use Rattle.src_model.specs.Call.{Ending, Returned, Trapped, call}
-use Rattle.src_model.specs.Sending.{World, Sent, zero_message}
-use Rattle.src_model.specs.Delivery.{Delivered, Ends, Dies, deliver, boot}
+use Rattle.src_model.specs.Call.{Trapped, call}
 use Rattle.src_model.specs.Initial.{initial_store}
 use Rattle.src_model.specs.declared.expr.TypedExpr.{TypedExpr}
 use Rattle.src_model.specs.declared.expr.TypedPlace.{TypedPlace}
-use Rattle.src_model.proofs.Sample.{program, world, num, long, expr, at, local, two, value, global, out_type, out_arg, in_source, set, set_local, reply, Seen, sends, trap, seen}
+use Rattle.src_model.proofs.Sample.{program, world, num, long, expr, at, two, value, global, out_arg, set, trap, seen}
 
 -- int n; int *p; void (*f)(void); union val u; struct node *q;
 abbrev n : TypedPlace

@@ -1,6 +1,6 @@
 -- The place of an assignment. A step into a member of a union that isn't active makes it active with a zero body,
 -- at that step.
-use Rattle.std.specs.Prelude.{ℕ, zero, suc, Bool, true, false, if◌then◌else◌, List, Option, Some, None, Result, Ok, Err, slice_get}
+use Rattle.std.specs.Prelude.{ℕ, if◌then◌else◌, Option, Some, None, Ok, Err, slice_get}
 use Rattle.std.specs.Option.{option_map}
 use Rattle.lu_spec.specs.Then.{then_do}
 use Rattle.lu_base.specs.declared.trap.Trap.TheVariants.{BadCode}
@@ -14,7 +14,7 @@ use Rattle.src_model.specs.declared.value.Store.{Store}
 use Rattle.src_model.specs.declared.expr.TypedPlace.{TypedPlace}
 use Rattle.src_model.specs.declared.expr.PlaceKind.{PlaceKind, Global, Deref', Arrow', Item', Element', Field', Member', Row_of-TypedPlace, end_of-TypedPlace, more_of-TypedPlace}
 use Rattle.src_model.specs.Paths.{zero_of}
-use Rattle.src_model.specs.Objects.{Gives, or_trap, Place, place, inside, value_at, store_with, target}
+use Rattle.src_model.specs.Objects.{Gives, or_trap, Place, inside, value_at, store_with, target}
 use Rattle.src_model.specs.Expression.{Scope, with_store, global_place, length_of, index_below, is_active, expr_type, place_type, pointer_plus, value_at_row}
 
 -- a place, and the store with the members on its way active

@@ -1,5 +1,5 @@
 -- Statements and calls: by recursion on fuel and, within it, on the text. Ticks that are left stand in the state.
-use Rattle.std.specs.Prelude.{ℕ, zero, suc, ◌+◌, ◌-◌, Bool, true, false, nat_lt, ℤ, pos, List, [], ◌∷◌, ◌++◌, map, Option, Some, None, Result, Ok, Err, slice_get, slice_set}
+use Rattle.std.specs.Prelude.{ℕ, zero, suc, Bool, true, false, nat_lt, ℤ, pos, List, [], ◌∷◌, ◌++◌, map, Option, Some, None, Ok, Err, slice_get, slice_set}
 use Rattle.std.specs.Option.{option_map}
 use Rattle.lu_spec.specs.Then.{then_do}
 use Rattle.lu_base.specs.declared.trap.Trap.{Trap}
@@ -16,7 +16,6 @@ use Rattle.src_model.specs.declared.stmt.Rhs.{Rhs}
 use Rattle.src_model.specs.declared.stmt.Rhs.TheVariants.{Value as Plain, Call as Result_of}
 use Rattle.src_model.specs.declared.stmt.TypedStmt.{TypedStmt, Block', Empty, Declare, SetLocal, Assign, Call, If', While', For', Break, Continue, Return, Row_of-TypedStmt, end_of-TypedStmt, more_of-TypedStmt}
 use Rattle.src_model.specs.declared.program.Function.{Function}
-use Rattle.src_model.specs.declared.program.Site.{Site}
 use Rattle.src_model.specs.declared.program.Program.{Program}
 use Rattle.src_model.specs.Paths.{zero_of}
 use Rattle.src_model.specs.Objects.{Gives, or_trap, value_at, allocated, freed}

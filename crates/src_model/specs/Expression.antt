@@ -1,27 +1,22 @@
 -- What an expression and a place give in a store, by recursion on the text, evaluated from left to right.
-use Rattle.std.specs.Prelude.{ℕ, zero, suc, ◌+◌, ◌*◌, Bool, true, false, nat_eq, nat_lt, nat_le, if◌then◌else◌, ℤ, pos, negsuc, List, [], ◌∷◌, Option, Some, None, Result, Ok, Err, slice_get}
+use Rattle.std.specs.Prelude.{ℕ, ◌+◌, ◌*◌, Bool, true, false, nat_eq, nat_lt, if◌then◌else◌, ℤ, pos, negsuc, List, [], ◌∷◌, Option, Some, Ok, Err, slice_get}
 use Rattle.lu_spec.specs.Then.{then_do}
-use Rattle.lu_base.specs.declared.trap.Trap.{Trap}
 use Rattle.lu_base.specs.declared.trap.Trap.TheVariants.{BadIndex, UnionMember, BadCode}
 use Rattle.c_types.specs.declared.parts.Parts.{Parts}
 use Rattle.c_types.specs.declared.parts.Ty.{Ty}
 use Rattle.c_types.specs.declared.parts.Ty.TheVariants as T
 use Rattle.c_types.specs.declared.parts.TheConstants.{POINTER_SIZE}
-use Rattle.c_types.specs.declared.path.Step.{Step}
 use Rattle.c_types.specs.declared.path.Step.TheVariants.{Index, Field, Member}
 use Rattle.c_types.specs.Layout.{size_of}
-use Rattle.src_model.specs.declared.value.Value.{Value, Int, Function, Union, out-Value}
+use Rattle.src_model.specs.declared.value.Value.{Value, Int, Function, out-Value}
 use Rattle.src_model.specs.declared.value.Value.TheOpen as V
 use Rattle.src_model.specs.declared.value.Store.{Store}
 use Rattle.src_model.specs.declared.expr.LogicalOperator.{LogicalOperator}
 use Rattle.src_model.specs.declared.expr.LogicalOperator.TheVariants.{And, Or}
 use Rattle.src_model.specs.declared.expr.BinaryOperator.TheVariants.{PointerAdd}
-use Rattle.src_model.specs.declared.expr.TypedExpr.{TypedExpr}
-use Rattle.src_model.specs.declared.expr.TypedPlace.{TypedPlace}
 use Rattle.src_model.specs.declared.expr.ExprKind.{ExprKind, Number, SizeOf, Local, Function as Function_name, Load', AddressOf', Decay', Cast', Convert', Unary', Binary', Logical', Conditional', Row_of-TypedExpr, end_of-TypedExpr, more_of-TypedExpr}
 use Rattle.src_model.specs.declared.expr.PlaceKind.{PlaceKind, Global, Deref', Arrow', Item', Element', Field', Member', Row_of-TypedPlace, end_of-TypedPlace, more_of-TypedPlace}
 use Rattle.src_model.specs.Paths.{Layer}
-use Rattle.src_model.specs.Integers.{flag}
 use Rattle.src_model.specs.Objects.{Gives, or_trap, Place, place, inside, value_at, target, address_at}
 use Rattle.src_model.specs.Operators.{with_int, is_true, converted, flagged, unary, binary}
 

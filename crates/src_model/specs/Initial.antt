@@ -1,16 +1,14 @@
 -- The store at the start: each global as its initialiser says.
-use Rattle.std.specs.Prelude.{ℕ, zero, suc, ◌-◌, ℤ, pos, if◌then◌else◌, List, [], ◌∷◌, ◌++◌, map, replicate, length, Option, Some, None, Result, Ok, Err, slice_get}
+use Rattle.std.specs.Prelude.{ℕ, ℤ, pos, List, [], ◌∷◌, map, replicate, Option, Some, Ok, Err, slice_get}
 use Rattle.c_types.specs.declared.parts.Parts.{Parts}
 use Rattle.c_types.specs.declared.parts.Ty.{Ty}
 use Rattle.c_types.specs.declared.parts.Ty.TheVariants as T
-use Rattle.c_types.specs.declared.parts.IntKind.{IntKind}
 use Rattle.c_types.specs.Tables.{fields_of}
 use Rattle.src_model.specs.declared.value.Value.{Value, Int, Struct, Array, out-Value}
 use Rattle.src_model.specs.declared.value.Value.TheOpen as V
 use Rattle.src_model.specs.declared.value.ObjectKind.TheVariants as Kind
 use Rattle.src_model.specs.declared.value.Object.{Object}
 use Rattle.src_model.specs.declared.value.Store.{Store}
-use Rattle.src_model.specs.declared.expr.TypedExpr.{TypedExpr}
 use Rattle.src_model.specs.declared.program.Init.{Init, Zero, One, Text, List', Row_of-Init, end_of-Init, more_of-Init}
 use Rattle.src_model.specs.declared.program.Global.{Global}
 use Rattle.src_model.specs.declared.program.Program.{Program}

@@ -1,5 +1,5 @@
 -- Integers by width and sign. All are two's complement.
-use Rattle.std.specs.Prelude.{ℕ, zero, suc, ◌+◌, ◌*◌, ◌^◌, Bool, ◌&&◌, ◌||◌, true, false, not, nat_lt, if◌then◌else◌, ℤ, pos, negsuc, ◌+ℤ◌, ◌-ℤ◌, ◌*ℤ◌, neg_ℤ, int_lt, int_div, int_rem, bit_and, bit_or, bit_xor, Result, Ok, Err}
+use Rattle.std.specs.Prelude.{ℕ, zero, ◌*◌, ◌^◌, Bool, ◌&&◌, ◌||◌, true, false, not, nat_lt, if◌then◌else◌, ℤ, pos, negsuc, ◌*ℤ◌, int_div, int_rem, Result, Ok, Err}
 use Rattle.std.specs.Int.{int_rem_euclid, int_shr, cast_signed, w8, w16, w32, w64}
 use mir.Syntax.{Width}
 use Rattle.std.specs.Int.RustNames.{unsigned_abs}

@@ -1,5 +1,5 @@
 -- Objects of a store: their sizes and addresses in bytes, what stands at a place, allocation and free.
-use Rattle.std.specs.Prelude.{ℕ, zero, suc, ◌+◌, ◌*◌, ◌/◌, ◌^◌, Bool, true, false, ◌||◌, ◌&&◌, not, nat_eq, nat_lt, nat_le, if◌then◌else◌, ℤ, pos, negsuc, List, [], ◌∷◌, ◌++◌, length, replicate, Option, Some, None, Result, Ok, Err, slice_get, slice_set}
+use Rattle.std.specs.Prelude.{ℕ, zero, suc, ◌+◌, ◌*◌, Bool, true, false, ◌&&◌, not, nat_le, if◌then◌else◌, ℤ, pos, negsuc, List, [], ◌∷◌, ◌++◌, length, replicate, Option, Some, None, Result, Ok, Err, slice_get, slice_set}
 use Rattle.std.specs.Option.{option_map}
 use Rattle.lu_spec.specs.Then.{then_option, then_do}
 use Rattle.lu_base.specs.declared.trap.Trap.{Trap}
@@ -7,14 +7,12 @@ use Rattle.lu_base.specs.declared.trap.Trap.TheVariants.{BadPointer, BadFree, Ba
 use Rattle.c_types.specs.declared.parts.Parts.{Parts}
 use Rattle.c_types.specs.declared.parts.TheConstants.{POINTER_SIZE}
 use Rattle.c_types.specs.declared.path.Step.{Step}
-use Rattle.c_types.specs.declared.path.Step.TheVariants.{Index}
-use Rattle.c_types.specs.declared.path.Place as T
 use Rattle.c_types.specs.Layout.{size_of, next_multiple}
 use Rattle.c_types.specs.Place.{object_place}
 use Rattle.c_types.specs.Descent.{find_place}
 use Rattle.src_model.specs.declared.value.Value.{Value, Null, Pointer}
 use Rattle.src_model.specs.declared.value.ObjectKind.{ObjectKind}
-use Rattle.src_model.specs.declared.value.ObjectKind.TheVariants.{Global, Heap, Temporary}
+use Rattle.src_model.specs.declared.value.ObjectKind.TheVariants.{Global, Heap}
 use Rattle.src_model.specs.declared.value.Object.{Object}
 use Rattle.src_model.specs.declared.value.Store.{Store}
 use Rattle.src_model.specs.Paths.{zero_of, element_part, with_element_part}

@@ -1,6 +1,6 @@
 -- What operators and conversions give of values. Where the operands aren't of the operator's types, BadCode:
 -- no valid program comes there.
-use Rattle.std.specs.Prelude.{ℕ, zero, suc, Bool, true, false, not, if◌then◌else◌, ℤ, pos, negsuc, ◌+ℤ◌, ◌-ℤ◌, ◌*ℤ◌, neg_ℤ, bit_and, bit_or, bit_xor, Option, Some, None, Result, Ok, Err, slice_get}
+use Rattle.std.specs.Prelude.{ℕ, zero, Bool, true, false, not, ℤ, pos, negsuc, ◌+ℤ◌, ◌-ℤ◌, ◌*ℤ◌, neg_ℤ, bit_and, bit_or, bit_xor, Option, Some, None, Ok, Err, slice_get}
 use Rattle.lu_spec.specs.Then.{then_do}
 use Rattle.lu_base.specs.declared.trap.Trap.TheVariants.{BadCode}
 use Rattle.c_types.specs.declared.parts.Parts.{Parts}

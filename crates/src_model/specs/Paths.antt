@@ -1,5 +1,5 @@
 -- Parts of values, by paths.
-use Rattle.std.specs.Prelude.{ℕ, zero, suc, nat_eq, nat_lt, if◌then◌else◌, List, [], ◌∷◌, map, replicate, length, Option, Some, None, slice_get, slice_set, pos}
+use Rattle.std.specs.Prelude.{ℕ, nat_eq, if◌then◌else◌, List, [], ◌∷◌, map, replicate, Option, Some, None, slice_get, slice_set, pos}
 use Rattle.lu_spec.specs.Then.{then_option}
 use Rattle.c_types.specs.declared.parts.Parts.{Parts}
 use Rattle.c_types.specs.declared.parts.FieldDef.{FieldDef}

@@ -1,14 +1,13 @@
 -- Messages as values, and what `send` does.
-use Rattle.std.specs.Prelude.{ℕ, zero, suc, Bool, true, false, ◌||◌, ◌&&◌, nat_eq, nat_lt, nat_le, if◌then◌else◌, ℤ, pos, negsuc, List, [], ◌∷◌, ◌++◌, length, map, Option, Some, None, Result, Ok, Err}
-use Rattle.lu_spec.specs.Then.{then_option, then_do}
+use Rattle.std.specs.Prelude.{ℕ, Bool, false, ◌||◌, ◌&&◌, nat_eq, nat_lt, nat_le, if◌then◌else◌, ℤ, pos, negsuc, List, [], ◌∷◌, ◌++◌, length, map, Option, Some, None}
+use Rattle.lu_spec.specs.Then.{then_option}
 use Rattle.lu_base.specs.declared.message.Message.{Message}
 use Rattle.lu_base.specs.declared.trap.Trap.TheVariants.{BadCode}
 use Rattle.c_types.specs.declared.path.Step.TheVariants.{Index}
 use Rattle.src_model.specs.declared.value.Value.{Value, Int, Struct, Array, out-Value}
 use Rattle.src_model.specs.declared.value.Value.TheOpen as V
-use Rattle.src_model.specs.declared.value.Store.{Store}
 use Rattle.src_model.specs.Paths.{Layer}
-use Rattle.src_model.specs.Objects.{Gives, or_trap, Place, place, value_at, store_with}
+use Rattle.src_model.specs.Objects.{Gives, or_trap, Place, place}
 
 -- the server's own number, and the numbers of all servers
 pub record World : Type 0 where

@@ -1,8 +1,7 @@
 -- Which stores are stores of a program.
-use Rattle.std.specs.Prelude.{◌≡◌, ℕ, zero, suc, ◌≤◌, Bool, true, false, ◌&&◌, not, nat_eq, nat_lt, nat_le, IsTrue, List, [], ◌∷◌, ◌++◌, map, length, Option, Some, None, slice_get}
+use Rattle.std.specs.Prelude.{ℕ, ◌≤◌, Bool, true, false, ◌&&◌, nat_eq, nat_lt, nat_le, IsTrue, List, [], ◌∷◌, length, Option, Some, None, slice_get}
 use Rattle.std.specs.List.{list_all}
 use Rattle.std.specs.Option.{option_map_or}
-use Rattle.c_types.specs.declared.parts.Parts.{Parts}
 use Rattle.c_types.specs.declared.parts.FieldDef.{FieldDef}
 use Rattle.c_types.specs.declared.parts.Signature.{Signature}
 use Rattle.c_types.specs.declared.parts.Ty.{Ty}
@@ -16,7 +15,6 @@ use Rattle.src_model.specs.declared.value.ObjectKind.TheVariants.{Global, Heap, 
 use Rattle.src_model.specs.declared.value.Object.{Object}
 use Rattle.src_model.specs.declared.value.Store.{Store}
 use Rattle.src_model.specs.declared.program.Function.{Function}
-use Rattle.src_model.specs.declared.program.Site.{Site}
 use Rattle.src_model.specs.declared.program.Global as Text
 use Rattle.src_model.specs.declared.program.Program.{Program}
 use Rattle.src_model.specs.Integers.{is_held}

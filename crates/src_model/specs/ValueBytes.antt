@@ -1,6 +1,6 @@
 -- A value as bytes, by recursion on its type. `w` is the size of a pointer; all numbers are little-endian, and what
 -- no part takes is zero.
-use Rattle.std.specs.Prelude.{◌≡◌, ℕ, zero, suc, ◌+◌, ◌-◌, ℤ, List, [], ◌∷◌, ◌++◌, map, length, replicate, Option, Some, None, slice_get}
+use Rattle.std.specs.Prelude.{◌≡◌, ℕ, ◌+◌, ◌-◌, List, [], ◌∷◌, ◌++◌, length, replicate, Option, Some, None, slice_get}
 use Rattle.std.specs.Option.{option_map_or}
 use Rattle.lu_spec.specs.LittleEndian.{little_endian}
 use Rattle.c_types.specs.declared.parts.Parts.{Parts}
@@ -10,7 +10,7 @@ use Rattle.c_types.specs.declared.parts.Ty.{Ty}
 use Rattle.c_types.specs.declared.parts.Ty.TheVariants.{Int, Pointer, VoidPointer, Function, Struct, Union, Array}
 use Rattle.c_types.specs.declared.parts.TheConstants.{POINTER_SIZE}
 use Rattle.c_types.specs.Tables.{fields_of, members_of}
-use Rattle.c_types.specs.Layout.{Shapes, int_size, shape_of, size_of, field_start, field_end, fields_end, greatest_align, next_multiple, struct_shape, members_start, union_shape}
+use Rattle.c_types.specs.Layout.{Shapes, int_size, shape_of, field_start, field_end, struct_shape, members_start, union_shape}
 use Rattle.c_types.specs.Recursion.{by_type}
 use Rattle.src_model.specs.declared.value.Value.{Value, out-Value}
 use Rattle.src_model.specs.declared.value.Value.TheOpen as V
