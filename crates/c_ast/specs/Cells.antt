@@ -15,15 +15,15 @@ tokens [] = []
 tokens (c ∷ cs) = c.0 ∷ tokens cs
 
 -- the text and the spelling have the same tokens up to one where a limit is passed, that one too
-abbrev pub Hot : List Cell → List Token → Type 0
-Hot [] ts = ⊥
-Hot (c ∷ cs) [] = ⊥
-Hot (c ∷ cs) (t ∷ ts) = (c.0 ≡ t) × ((c.1 ≡ true) ⊎ Hot cs ts)
+abbrev pub PassesLimit : List Cell → List Token → Type 0
+PassesLimit [] ts = ⊥
+PassesLimit (c ∷ cs) [] = ⊥
+PassesLimit (c ∷ cs) (t ∷ ts) = (c.0 ≡ t) × ((c.1 ≡ true) ⊎ PassesLimit cs ts)
 
 -- no limit is passed
-abbrev pub Cold : List Cell → Type 0
-Cold [] = Unit {0}
-Cold (c ∷ cs) = (c.1 ≡ false) × Cold cs
+abbrev pub KeepsLimits : List Cell → Type 0
+KeepsLimits [] = Unit {0}
+KeepsLimits (c ∷ cs) = (c.1 ≡ false) × KeepsLimits cs
 
 -- Room is how many more constructs may be open and then one: 65 less the depth. Without room a limit is passed.
 abbrev pub none : ℕ → Bool

@@ -3,7 +3,7 @@ use Rattle.std.specs.Prelude.{◌≡◌, ◌≢◌, ◌↔◌, ℕ, suc, List, [
 use Rattle.c_ast.specs.declared.token.Token.{Token}
 use Rattle.c_ast.specs.declared.fault.Fault.{Fault}
 use Rattle.c_ast.specs.declared.fault.Fault.TheVariants.{TooDeep}
-use Rattle.c_ast.specs.Cells.{tokens, Hot, Cold}
+use Rattle.c_ast.specs.Cells.{tokens, PassesLimit, KeepsLimits}
 use Rattle.c_ast.specs.Trees.{Expression, Declaration}
 use Rattle.c_ast.specs.Grammar.{limit, top, IsExpression, cells, IsDeclaration, declaration_cells}
 
@@ -14,7 +14,7 @@ expression_spelling e = tokens (cells e limit)
 
 -- an expression of the grammar in which no limit is passed
 abbrev pub IsExpressionWithinBounds : Expression → Type 0
-IsExpressionWithinBounds e = IsExpression e × Cold (cells e limit)
+IsExpressionWithinBounds e = IsExpression e × KeepsLimits (cells e limit)
 
 -- the text is this expression
 abbrev pub IsSpelledExpression : List Token → Expression → Type 0
@@ -22,7 +22,7 @@ IsSpelledExpression text e = IsExpressionWithinBounds e × (text ≡ expression_
 
 -- an expression of any depth passes a limit within what the text has of it
 abbrev pub IsDeepExpression : List Token → Type 0
-IsDeepExpression text = (e : Expression) × IsExpression e × Hot (cells e limit) text
+IsDeepExpression text = (e : Expression) × IsExpression e × PassesLimit (cells e limit) text
 
 -- the text is no expression
 pub record IsRefusedExpression (text : List Token) (fault : Fault) : Type 0 where
@@ -36,7 +36,7 @@ declaration_spelling d = tokens (declaration_cells d top)
 
 -- a declaration of the grammar in which no limit is passed
 abbrev pub IsDeclarationWithinBounds : Declaration → Type 0
-IsDeclarationWithinBounds d = IsDeclaration d × Cold (declaration_cells d top)
+IsDeclarationWithinBounds d = IsDeclaration d × KeepsLimits (declaration_cells d top)
 
 abbrev pub AreWithinBounds : List Declaration → Type 0
 AreWithinBounds [] = Unit {0}
@@ -53,7 +53,7 @@ pub record IsProgram (text : List Token) (ds : List Declaration) : Type 0 where
 
 -- a declaration of any depth passes a limit within what the text has of it
 abbrev pub IsDeep : List Token → Type 0
-IsDeep text = (d : Declaration) × IsDeclaration d × Hot (declaration_cells d top) text
+IsDeep text = (d : Declaration) × IsDeclaration d × PassesLimit (declaration_cells d top) text
 
 -- The declarations before the k-th can be read, tokens remain, and the k-th can't be read.
 pub record IsRefusedAt (text : List Token) (fault : Fault) (k : ℕ) : Type 0 where

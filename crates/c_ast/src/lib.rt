@@ -1,4 +1,4 @@
-//! Tokens of a text in the C subset and their spellings, its syntax tree, and the grammar that relates the two.
+//! Tokens and trees of the C subset, and the bytes and tokens that spell them.
 #![tactic(auto)]
 
 pub mod decl;

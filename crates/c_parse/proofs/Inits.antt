@@ -8,14 +8,15 @@ use Rattle.c_ast.specs.declared.fault.Fault.TheVariants.{Syntax, TooDeep}
 use Rattle.c_ast.specs.declared.expr.UnaryOperator.{UnaryOperator}
 use Rattle.c_ast.specs.declared.expr.UnaryOperator.TheVariants as unary_operator
 use Rattle.c_ast.specs.Trees.{Text, Expression, Num, Char, Var, Paren, Size, At, Part, Prefix, Convert, Op, Cond, Initializer, Single, Bytes, Braces, Initializers, NoMore, Next, initializers_of}
-use Rattle.c_ast.specs.Cells.{Cell, tokens, Hot, Cold, none, less}
+use Rattle.c_ast.specs.Cells.{Cell, tokens, PassesLimit, KeepsLimits, none, less}
 use Rattle.c_ast.specs.Grammar.{limit, rank, cells, unary_mark, IsExpression, comma_cells, IsInitializer, AreInitializers, initializer_cells, more_initializers, IsInitializerIfAny, initial_cells}
 use Rattle.c_parse_expr.specs.Reads.{Reads, Reader, made, build, ◌⊳◌, give, one, at_limit}
 use Rattle.c_parse_expr.specs.Reading.{same_mark, is_mark, sees, sees_one, is_some, expect, begins, expr}
 use Rattle.c_parse_expr.proofs.Exact.{Kind, Exact, Sound, IsHot, Opens, Heads, Leads, both, seq, narrow, choose_exact, option_kind, option_exact, option_well, option_cells, option_stops, one_kind, one_exact, limit_exact, opens_left, leads_left, leads_opens, leads_hot}
 use Rattle.c_parse_expr.proofs.Chains.{list_well, list_cells, some_well, some_cells, shorter}
 use Rattle.c_parse_expr.proofs.Sorts.{token_opens, mark_kind, expect_exact, at_head, sees_heads, mark_self, grip, before_mark}
-use Rattle.c_parse_expr.proofs.Exprs.{kind, rank_small, lead, leads, opens_lead, begins_lead, begun, expr_exact}
+use Rattle.c_parse_expr.proofs.Postfixes.{kind, rank_small, lead, leads, opens_lead}
+use Rattle.c_parse_expr.proofs.Exprs.{begins_lead, begun, expr_exact}
 use Rattle.c_parse.specs.Declarations.{pick_text, sees_next, next_init, inits, last_comma, init_braces, begins_init, init_text, init_by, init, initial_value, initial}
 use Rattle.c_parse.proofs.Lists.{last_stops, some_kept, some_kept_exact}
 use Rattle.c_parse.proofs.Rights.{other_mark}
@@ -177,22 +178,22 @@ module _ (n : ℕ) (inner : Reader Initializer) (inners : (ts : List Token) → 
       absent : sees m.Comma ts ≡ false → Exact comma_kind ts (Ok (false, ts))
       absent e = record { only = onlies; sound = (tt, refl, (λ h. e), λ h. cool h.0 h.2) }
         where
-          onlies : (b : Bool) (rest : List Token) → Unit {0} → ts ≡ tokens (comma_cells b (suc n)) ++ rest → (b ≡ false → sees m.Comma rest ≡ false) → Cold (comma_cells b (suc n)) → ◌≡◌ {A = Reads Bool} (Ok (false, ts)) (Ok (b, rest))
+          onlies : (b : Bool) (rest : List Token) → Unit {0} → ts ≡ tokens (comma_cells b (suc n)) ++ rest → (b ≡ false → sees m.Comma rest ≡ false) → KeepsLimits (comma_cells b (suc n)) → ◌≡◌ {A = Reads Bool} (Ok (false, ts)) (Ok (b, rest))
           onlies false rest w f s c = ap (λ x. Ok (false, x)) f
           onlies true rest w f s c = absurd (let h = without true (Rattle.c_parse_expr.proofs.Exact.opens_spelled (comma_cells true (suc n)) ts rest f) e in cc)
 
-          cool : (b : Bool) → Hot (comma_cells b (suc n)) ts → ⊥
+          cool : (b : Bool) → PassesLimit (comma_cells b (suc n)) ts → ⊥
           cool false h = h
           cool true h = let k = without true (Rattle.c_parse_expr.proofs.Exact.opens_hot (comma_cells true (suc n)) ts h) e in cc
 
       there : sees m.Comma ts ≡ true → Exact comma_kind ts (made (λ u. true) (expect m.Comma ts))
       there e = record { only = onlies; sound = sounds (expect m.Comma ts) (expect_exact m.Comma ts).sound }
         where
-          onlies : (b : Bool) (rest : List Token) → Unit {0} → ts ≡ tokens (comma_cells b (suc n)) ++ rest → (b ≡ false → sees m.Comma rest ≡ false) → Cold (comma_cells b (suc n)) → made (λ u. true) (expect m.Comma ts) ≡ Ok (b, rest)
+          onlies : (b : Bool) (rest : List Token) → Unit {0} → ts ≡ tokens (comma_cells b (suc n)) ++ rest → (b ≡ false → sees m.Comma rest ≡ false) → KeepsLimits (comma_cells b (suc n)) → made (λ u. true) (expect m.Comma ts) ≡ Ok (b, rest)
           onlies false rest w f s c = absurd (let h : sees m.Comma ts ≡ false = ap (sees m.Comma) f ∙ s refl in cc)
           onlies true rest w f s c = ap (made (λ (u : Unit {0}). true)) ((expect_exact m.Comma ts).only tt rest tt f tt c)
 
-          cool : (IsHot (mark_kind m.Comma) ts → ⊥) → (b : Bool) → Hot (comma_cells b (suc n)) ts → ⊥
+          cool : (IsHot (mark_kind m.Comma) ts → ⊥) → (b : Bool) → PassesLimit (comma_cells b (suc n)) ts → ⊥
           cool h false k = k
           cool h true k = h (tt, tt, k)
 
@@ -299,7 +300,7 @@ init_begins (Single e) ts = or_true (sees m.LeftBrace (lead e ∷ ts) || sees_on
 init_begins (Bytes b) ts = refl
 init_begins (Braces is comma) ts = refl
 
-hot_init : (i : Initializer) (ts : List Token) → Heads (init_lead i) ts → Hot (initializer_cells i zero) ts
+hot_init : (i : Initializer) (ts : List Token) → Heads (init_lead i) ts → PassesLimit (initializer_cells i zero) ts
 hot_init (Single e) ts h = leads_hot (lead e) (cells e zero) ts (leads e zero) h
 hot_init (Bytes b) ts h = leads_hot (token.Text b) (initializer_cells (Bytes b) zero) ts (refl, refl) h
 hot_init (Braces is comma) ts h = leads_hot (token.Mark m.LeftBrace) (initializer_cells (Braces is comma) zero) ts (refl, refl) h

@@ -1,6 +1,7 @@
 pub mod Turns
 pub mod Params
 pub mod Rights
+pub mod Leads
 pub mod Stmts
 pub mod Lists
 pub mod Inits

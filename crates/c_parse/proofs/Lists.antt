@@ -2,7 +2,7 @@
 use Rattle.std.proofs.Common.{◌≡◌, ◌∙◌, refl, sym, ap, subst, ℕ, zero, suc, ◌≤◌, Bool, true, false, List, [], ◌∷◌, ◌++◌, length, arith, Ok, Err, cond}
 use Rattle.c_ast.specs.declared.token.Token.{Token}
 use Rattle.c_ast.specs.declared.fault.Fault.TheVariants.{Syntax, TooDeep}
-use Rattle.c_ast.specs.Cells.{tokens, Hot, Cold}
+use Rattle.c_ast.specs.Cells.{tokens, PassesLimit, KeepsLimits}
 use Rattle.c_parse_expr.specs.Reads.{Reads, Reader, ◌>>=◌, made, pair_of, climb, snoc, some_of}
 use Rattle.c_parse_expr.proofs.Exact.{Kind, Exact, Sound, IsHot, Opens, both_with, two_exact, narrow, opens_left, opens_all, opens_hot, opens_spelled}
 use Rattle.c_parse_expr.proofs.Chains.{many, folded, climb_is_many, folded_snoc, shorter, list_well, list_cells, some_well, some_cells}
@@ -34,11 +34,11 @@ module _ {S : Type 0} (X : Kind S) (more : List Token → Bool) (step : Reader S
   ended : (ts : List Token) → more ts ≡ false → Exact (kept_kind X more) ts (Ok ([], ts))
   ended ts e = record { only = onlies; sound = (tt, refl, (e, tt), λ h. cool h.0 h.1 h.2) }
     where
-      onlies : (ss : List S) (rest : List Token) → list_well X ss → ts ≡ tokens (list_cells X ss) ++ rest → (more rest ≡ false) × last_stops X ss rest → Cold (list_cells X ss) → ◌≡◌ {A = Reads (List S)} (Ok ([], ts)) (Ok (ss, rest))
+      onlies : (ss : List S) (rest : List Token) → list_well X ss → ts ≡ tokens (list_cells X ss) ++ rest → (more rest ≡ false) × last_stops X ss rest → KeepsLimits (list_cells X ss) → ◌≡◌ {A = Reads (List S)} (Ok ([], ts)) (Ok (ss, rest))
       onlies [] rest w f s c = ap (λ x. Ok ([], x)) f
       onlies (s ∷ ss) rest w f st c = absurd (let h = first_opens s ss ts w.0 (opens_spelled (list_cells X (s ∷ ss)) ts rest f) in cc)
 
-      cool : (ss : List S) → list_well X ss → Hot (list_cells X ss) ts → ⊥
+      cool : (ss : List S) → list_well X ss → PassesLimit (list_cells X ss) ts → ⊥
       cool [] w h = h
       cool (s ∷ ss) w h = let k = first_opens s ss ts w.0 (opens_hot (list_cells X (s ∷ ss)) ts h) in cc
 
@@ -72,7 +72,7 @@ module _ {S : Type 0} (X : Kind S) (more : List Token → Bool) (step : Reader S
           met s [] rest w v st = st.1
           met s (u ∷ us) rest w v st = glued s u _ w v.0 (opens_left (X.cells u) (list_cells X us) _ (opens_all (list_cells X (u ∷ us)) rest))
 
-          met_hot : (s : S) (ss : List S) (ts : List Token) → X.well s → list_well X ss → Hot (list_cells X ss) ts → X.stops s ts
+          met_hot : (s : S) (ss : List S) (ts : List Token) → X.well s → list_well X ss → PassesLimit (list_cells X ss) ts → X.stops s ts
           met_hot s [] ts w v h = absurd h
           met_hot s (u ∷ us) ts w v h = glued s u ts w v.0 (opens_left (X.cells u) (list_cells X us) ts (opens_hot (list_cells X (u ∷ us)) ts h))
 
@@ -87,11 +87,11 @@ module _ {S : Type 0} (X : Kind S) (more : List Token → Bool) (step : Reader S
           two : Exact (Two X more) ts (pair_of (step ts) (λ p. many more step n p.1))
           two = two_exact X (λ s. kept_kind X more) (both_stops X more) met met_hot down up (λ s w. ([], tt)) ts (step ts) (λ p. many more step n p.1) first (λ s rest r st. ih rest (later s rest r))
 
-          onlies : (ss : List S) (rest : List Token) → list_well X ss → ts ≡ tokens (list_cells X ss) ++ rest → (more rest ≡ false) × last_stops X ss rest → Cold (list_cells X ss) → made (λ p. p.0 ∷ p.1) (pair_of (step ts) (λ p. many more step n p.1)) ≡ Ok (ss, rest)
+          onlies : (ss : List S) (rest : List Token) → list_well X ss → ts ≡ tokens (list_cells X ss) ++ rest → (more rest ≡ false) × last_stops X ss rest → KeepsLimits (list_cells X ss) → made (λ p. p.0 ∷ p.1) (pair_of (step ts) (λ p. many more step n p.1)) ≡ Ok (ss, rest)
           onlies [] rest w f s c = absurd (let h = s.0 in let g : more ts ≡ more rest = ap more f in cc)
           onlies (s ∷ ss) rest w f st c = ap (made (λ (p : S × List S). p.0 ∷ p.1)) (two.only (s, ss) rest w f st c)
 
-          cool : (IsHot (Two X more) ts → ⊥) → (ss : List S) → list_well X ss → Hot (list_cells X ss) ts → ⊥
+          cool : (IsHot (Two X more) ts → ⊥) → (ss : List S) → list_well X ss → PassesLimit (list_cells X ss) ts → ⊥
           cool n [] w h = h
           cool n (s ∷ ss) w h = n ((s, ss), w, h)
 
@@ -120,7 +120,7 @@ module _ {S : Type 0} (X : Kind S) (more : List Token → Bool) (step : Reader S
         met s [] rest w v st = st.1
         met s (u ∷ us) rest w v st = f_glue s u _ w v.0 (opens_left (X.cells u) (list_cells X us) _ (opens_all (list_cells X (u ∷ us)) rest))
 
-        met_hot : (s : S) (ss : List S) (ts : List Token) → F.well s → list_well X ss → Hot (list_cells X ss) ts → F.stops s ts
+        met_hot : (s : S) (ss : List S) (ts : List Token) → F.well s → list_well X ss → PassesLimit (list_cells X ss) ts → F.stops s ts
         met_hot s [] ts w v h = absurd h
         met_hot s (u ∷ us) ts w v h = f_glue s u ts w v.0 (opens_left (X.cells u) (list_cells X us) ts (opens_hot (list_cells X (u ∷ us)) ts h))
 

@@ -14,12 +14,12 @@ use Rattle.c_parse_expr.proofs.Exact.{Kind, Exact, Sound, Opens, Heads, both, bo
 use Rattle.c_parse_expr.proofs.Chains.{list_well, list_cells, list_kind, listed_exact, shorter}
 use Rattle.c_parse_expr.proofs.Sorts.{token_opens, mark_kind, expect_exact, name_kind, name_exact, at_head, mark_self}
 use Rattle.c_parse_expr.proofs.TypeNames.{type_kind, type_stops, type_exact, type_opens}
-use Rattle.c_parse_expr.proofs.Exprs.{zero_number}
+use Rattle.c_parse_expr.proofs.Postfixes.{zero_number}
 use Rattle.c_parse.specs.Statements.{more_items}
 use Rattle.c_parse.specs.Declarations.{pick_number, array_length, length_if_any, signature, Sized, sized, pointer, data_by, pointer_by, field_rest, field, fields, record_fields}
 use Rattle.c_parse.proofs.Params.{params_kind, params_exact, params_before_close, type_before_paren, type_before_name}
 use Rattle.c_parse.proofs.Rights.{other_mark}
-use Rattle.c_parse.proofs.Stmts.{base_more, brace_ends}
+use Rattle.c_parse.proofs.Leads.{base_more, brace_ends}
 
 abbrev number_kind : Kind Number
 number_kind = one_kind (λ n. Unit {0}) token.Number

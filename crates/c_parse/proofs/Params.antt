@@ -13,7 +13,7 @@ use Rattle.c_ast.specs.declared.types.BaseType.{BaseType}
 use Rattle.c_ast.specs.declared.types.BaseType.TheVariants as base
 use Rattle.c_ast.specs.declared.types.TypeName.{TypeName}
 use Rattle.c_ast.specs.Trees.{Text, Parameter, Plain, Function, Parameters, NoParameter, Also, parameters_of}
-use Rattle.c_ast.specs.Cells.{Cell, tokens, Hot, none}
+use Rattle.c_ast.specs.Cells.{Cell, tokens, PassesLimit, none}
 use Rattle.c_ast.specs.Grammar.{star_limit, base_cells, star_cells, type_cells, parameter_cells, parameters_cells, more_parameters}
 use Rattle.c_parse_expr.specs.Reads.{Reads, Reader, made, build, ◌⊳◌, choose, unless, some_of, list_if_any, at_limit}
 use Rattle.c_parse_expr.specs.Reading.{same_mark, same_keyword, is_keyword, sees, is_some, pick_tag, pick_base, more_unsigned, type_name, begins_type}
@@ -308,7 +308,7 @@ module _ (n : ℕ) (inner : Reader Parameters) (inners : (ts : List Token) → E
       met t [] rest w v s = type_before_close n t rest (sees_heads m.RightParen rest s)
       met t (p ∷ ps) rest w v s = first_opens t p ps _ (opens_all ((some_params_kind t).cells (p ∷ ps)) rest)
 
-      met_hot : (t : TypeName) (l : List Parameter) (ts : List Token) → Unit {0} → after_well t l → Hot ((some_params_kind t).cells l) ts → type_stops n t ts
+      met_hot : (t : TypeName) (l : List Parameter) (ts : List Token) → Unit {0} → after_well t l → PassesLimit ((some_params_kind t).cells l) ts → type_stops n t ts
       met_hot t [] ts w v h = absurd h
       met_hot t (p ∷ ps) ts w v h = first_opens t p ps ts (opens_hot ((some_params_kind t).cells (p ∷ ps)) ts h)
 

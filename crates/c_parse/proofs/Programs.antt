@@ -8,7 +8,7 @@ use Rattle.c_ast.specs.declared.fault.Fault.{Fault}
 use Rattle.c_ast.specs.declared.fault.Fault.TheVariants.{Syntax, TooDeep}
 use Rattle.c_ast.specs.declared.decl.Decl.{Decl}
 use Rattle.c_ast.specs.Trees.{Data, Pointer, Declaration, Record, Global, Prototype, Definition, declaration, declarations}
-use Rattle.c_ast.specs.Cells.{tokens, Hot, Cold, none}
+use Rattle.c_ast.specs.Cells.{tokens, PassesLimit, KeepsLimits, none}
 use Rattle.c_ast.specs.Grammar.{top, tag_keyword, type_cells, declaration_cells}
 use Rattle.c_ast.specs.Program.{declaration_spelling, IsDeclarationWithinBounds, AreWithinBounds, spelling, IsProgram, IsDeep, IsRefusedAt}
 use Rattle.c_parse_expr.specs.declared.error.ReadError.{ReadError}
@@ -32,7 +32,7 @@ decl_is ts d rest e =
     let known : Sound declaration_kind ts (Ok (d, rest)) = subst (Sound declaration_kind ts) e (decl_exact ts).sound in
     elim (cold_or_hot (declaration_cells d top) rest) [
       | inl c ↦ ((known.0, c), known.1)
-      | inr h ↦ absurd (known.3 (d, known.0, subst (Hot (declaration_cells d top)) (sym known.1) h))
+      | inr h ↦ absurd (known.3 (d, known.0, subst (PassesLimit (declaration_cells d top)) (sym known.1) h))
     ]
 
 pub decl_only : (ts : List Token) (d : Declaration) (rest : List Token) → IsDeclarationWithinBounds d → ts ≡ declaration_spelling d ++ rest → decl ts ≡ Ok (d, rest)

@@ -17,7 +17,8 @@ use Rattle.c_parse_expr.specs.Reading.{same_mark, same_keyword, is_mark, sees, s
 use Rattle.c_parse_expr.proofs.Exact.{Kind, Exact, Sound, IsHot, Opens, Heads, Leads, Glue_some, both, both_on, both_keep, keep_stops, seq, seq_on, seq_keep, narrow, widen, choose_exact, option_kind, option_exact, option_well, option_cells, option_stops, unless_kind, unless_exact, unless_stops, opens_heads, opens_left, leads_left, leads_opens}
 use Rattle.c_parse_expr.proofs.Chains.{list_well, list_cells, some_kind, some_exact, if_any_kind, if_any_exact, shorter}
 use Rattle.c_parse_expr.proofs.Sorts.{token_opens, mark_kind, keyword_kind, expect_exact, expect_keyword_exact, at_head, mark_is, mark_self, grip, before_mark}
-use Rattle.c_parse_expr.proofs.Exprs.{kind, rank_small, lead, opens_lead, glue_mark, zero_number, some_expression, begins_lead, expr_exact}
+use Rattle.c_parse_expr.proofs.Postfixes.{kind, rank_small, lead, opens_lead, glue_mark, zero_number, some_expression}
+use Rattle.c_parse_expr.proofs.Exprs.{begins_lead, expr_exact}
 use Rattle.c_parse.specs.Statements.{next_argument, some_arguments, arguments, call, is_postfix, calls, right_by, call_if_any, right, start_value, start, local, setting, Tail, Assigned, Called, assigned, called, only_after, tail, statement_by, simple, leave, break_off, go_on, empty, condition}
 use Rattle.c_parse.proofs.Params.{and_false, params_kind, param_kind, param_exact}
 

@@ -3,16 +3,13 @@ use Rattle.std.specs.Prelude.{List, Option, Some, None}
 use Rattle.c_ast.specs.declared.expr.Expr.{Expr}
 use Rattle.c_ast.specs.declared.stmt.Param.{Param}
 use Rattle.c_ast.specs.declared.stmt.Stmt.{Stmt}
-use Rattle.c_ast.specs.Trees.{Expression, expressions, Parameters, parameters, Statements, statements, right, objects, initializer_if_any}
+use Rattle.c_ast.specs.Trees.{Expression, expressions, Parameters, parameters, Statements, statements, right, initializer_if_any}
 use Rattle.c_parse.specs.declared.parts.After.{After}
 use Rattle.c_parse.specs.declared.parts.After.TheVariants as parts
 use Rattle.c_parse.specs.declared.decl.Rest.{Rest as CodedRest}
 use Rattle.c_parse.specs.declared.decl.Rest.TheVariants as coded
-use Rattle.c_parse.specs.declared.decl.AfterBase.{AfterBase}
-use Rattle.c_parse.specs.declared.decl.AfterBase.TheVariants as coded_after
 use Rattle.c_parse.specs.Statements.{Tail, Assigned, Called}
-use Rattle.c_parse.specs.Declarations as declarations
-use Rattle.c_parse.specs.Declarations.{Rest, PointerRest, FunctionRest, DataRest, Fields, Starred}
+use Rattle.c_parse.specs.Declarations.{Rest, PointerRest, FunctionRest, DataRest}
 
 abbrev pub parameters_if_any : Option (List Param) → Option Parameters
 parameters_if_any None = None
@@ -34,7 +31,3 @@ abbrev pub rest_seen : CodedRest → Rest
 rest_seen (coded.Pointer x n ps i) = PointerRest ((x, n), parameters ps) (initializer_if_any i)
 rest_seen (coded.Function x ps body) = FunctionRest x (parameters ps) (body_seen body)
 rest_seen (coded.Data x n i) = DataRest x n (initializer_if_any i)
-
-abbrev pub after_seen : AfterBase → declarations.After
-after_seen (coded_after.Fields fs) = Fields (objects fs)
-after_seen (coded_after.Starred n r) = Starred n (rest_seen r)

@@ -1,11 +1,11 @@
 //! Declarations.
 
-ghost use Rattle.std.specs.Prelude.{◌≡◌, IsTrue};
+ghost use Rattle.std.specs.Prelude.{◌≡◌, true};
 ghost use Rattle.c_ast.specs.Trees.{initializer_if_any, declaration, objects, parameters};
 ghost use Rattle.c_parse_expr.specs.Reads.{Gives};
 ghost use Rattle.c_parse.specs.Declarations as declarations;
 ghost use Rattle.c_parse.specs.Declarations.{FunctionRest};
-ghost use Rattle.c_parse.specs.Views.{body_seen, rest_seen, after_seen};
+ghost use Rattle.c_parse.specs.Views.{body_seen, rest_seen};
 
 use crate::init::initial;
 use crate::object::{length_if_any, pointer, record_fields, signature};
@@ -13,7 +13,7 @@ use crate::stmt::block;
 use c_ast::decl::{Decl, Init, Named};
 use c_ast::stmt::{Param, Stmt};
 use c_ast::token::{Mark, Number, Token};
-use c_ast::types::{BaseType, TagKind, TypeName};
+use c_ast::types::{BaseType, TypeName};
 use c_parse_expr::error::ReadError;
 use c_parse_expr::expr::LIMIT;
 use c_parse_expr::tokens::{expect, name, sees};
@@ -28,13 +28,6 @@ pub enum Rest {
     Pointer(Name, Option<Number>, Items<Param>, Option<Boxed<Init>>),
     Function(Name, Items<Param>, Option<Items<Stmt>>),
     Data(Name, Option<Number>, Option<Boxed<Init>>),
-}
-
-/// What follows a declaration's type without stars.
-#[derive(Drop)]
-pub enum AfterBase {
-    Fields(Items<Named>),
-    Starred(u8, Rest),
 }
 
 #[tactic(auto, unfolding(crate::specs::Declarations::start_or_end))]
@@ -144,24 +137,6 @@ fn declares(base: &BaseType, tokens: &[Token]) -> bool
     }
 }
 
-#[tactic(auto, unfolding(crate::specs::Declarations::after))]
-fn after<'a>(
-    alloc: Global,
-    base: &BaseType,
-    tokens: &'a [Token],
-) -> Result<(AfterBase, &'a [Token]), ReadError>
-    ensures { Gives (λ x. (after_seen x.0, x.1.now)) result (declarations.after base.now tokens.now) }
-{
-    if declares(base, tokens) {
-        let (list, tokens) = record_fields(alloc, tokens)?;
-        Ok((AfterBase::Fields(list), tokens))
-    } else {
-        let (count, tokens) = stars(tokens)?;
-        let (rest, tokens) = read_rest(alloc, tokens)?;
-        Ok((AfterBase::Starred(count, rest), tokens))
-    }
-}
-
 fn function_by(ty: TypeName, name: Name, list: Items<Param>, body: Option<Items<Stmt>>) -> Decl
     ensures { declaration result ≡ declarations.declaration_by ty (FunctionRest name (parameters list) (body_seen body)) }
 {
@@ -183,7 +158,8 @@ fn decl_by(ty: TypeName, rest: Rest) -> Decl
     }
 }
 
-fn record_by(alloc: Global, base: BaseType, list: Items<Named>) -> Decl
+fn record_by(base: BaseType, list: Items<Named>) -> Decl
+    requires { declarations.is_tagged base ≡ true }
     ensures { declaration result ≡ declarations.record_by base (objects list) }
 {
     match base {
@@ -193,29 +169,22 @@ fn record_by(alloc: Global, base: BaseType, list: Items<Named>) -> Decl
         | BaseType::Short
         | BaseType::Int
         | BaseType::LongLong
-        | BaseType::Unsigned(_) => Decl::Record(
-            TagKind::Struct,
-            Name::new(String::new(alloc)),
-            list,
-        ),
-    }
-}
-
-fn decl_after(alloc: Global, base: BaseType, after: AfterBase) -> Decl
-    ensures { declaration result ≡ declarations.declaration_after base (after_seen after) }
-{
-    match after {
-        AfterBase::Fields(list) => record_by(alloc, base, list),
-        AfterBase::Starred(stars, rest) => decl_by(TypeName { base, stars }, rest),
+        | BaseType::Unsigned(_) => unreachable!(),
     }
 }
 
 /// A declaration, and the text after it.
-#[tactic(auto, unfolding(crate::specs::Declarations::decl))]
+#[tactic(auto, unfolding(crate::specs::Declarations::decl, crate::specs::Declarations::after))]
 pub fn decl(alloc: Global, tokens: &[Token]) -> Result<(Decl, &[Token]), ReadError>
     ensures { Gives (λ x. (declaration x.0, x.1.now)) result (declarations.decl tokens.now) }
 {
     let (base, tokens) = base_type(alloc, tokens)?;
-    let (after, tokens) = after(alloc, &base, tokens)?;
-    Ok((decl_after(alloc, base, after), tokens))
+    if declares(&base, tokens) {
+        let (list, tokens) = record_fields(alloc, tokens)?;
+        Ok((record_by(base, list), tokens))
+    } else {
+        let (stars, tokens) = stars(tokens)?;
+        let (rest, tokens) = read_rest(alloc, tokens)?;
+        Ok((decl_by(TypeName { base, stars }, rest), tokens))
+    }
 }

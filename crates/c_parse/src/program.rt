@@ -7,14 +7,14 @@ ghost use Rattle.c_ast.specs.Program.{IsProgram, IsRefusedAt};
 ghost use Rattle.c_parse.specs.Answers.{Refuses, Only, OnlyRefused};
 
 use crate::decl::decl;
-use c_ast::decl::Decl;
+use c_ast::decl::Ast;
 use c_ast::token::Token;
 use c_parse_expr::error::ParseError;
 use c_parse_expr::whole::located;
 use sqlite_items::Items;
 use std::alloc::Global;
 
-fn read(alloc: Global, tokens: &[Token]) -> Result<Items<Decl>, ParseError>
+fn read(alloc: Global, tokens: &[Token]) -> Result<Ast, ParseError>
     ensures found { IfOk result (λ p. IsProgram tokens.now (declarations p)) }
     ensures refused { Refuses tokens.now result }
 {
@@ -33,7 +33,7 @@ fn read(alloc: Global, tokens: &[Token]) -> Result<Items<Decl>, ParseError>
 }
 
 /// The program that the tokens spell.
-pub fn parse(alloc: Global, tokens: &[Token]) -> Result<Items<Decl>, ParseError>
+pub fn parse(alloc: Global, tokens: &[Token]) -> Result<Ast, ParseError>
     // What is read is a program whose spelling the text is.
     ensures found { IfOk result (λ p. IsProgram tokens.now (declarations p)) }
     // Where the text is the spelling of a program, that one is read.

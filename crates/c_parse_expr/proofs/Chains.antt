@@ -4,7 +4,7 @@ use Rattle.std.proofs.lemmas.List.{append-nil}
 use Rattle.std.proofs.Math.Nat.{sub-zero}
 use Rattle.c_ast.specs.declared.token.Token.{Token}
 use Rattle.c_ast.specs.declared.fault.Fault.TheVariants.{Syntax, TooDeep}
-use Rattle.c_ast.specs.Cells.{Cell, tokens, Hot, Cold, none, less}
+use Rattle.c_ast.specs.Cells.{Cell, tokens, PassesLimit, KeepsLimits, none, less}
 use Rattle.c_parse_expr.specs.Reads.{Reads, Reader, ◌>>=◌, made, pair_of, climb, snoc, some_of, build, unless, list_if_any}
 use Rattle.c_parse_expr.proofs.Exact.{Kind, Exact, Sound, IsHot, Opens, both_with, two_exact, narrow, unless_kind, unless_exact, option_well, option_cells, unless_stops, opens_left, opens_all, opens_hot, opens_spelled, hot_left, cold_append}
 
@@ -35,7 +35,7 @@ module _ {S : Type 0} (X : Bool → Kind S) (more : List Token → Bool) (step :
     (closes : (ts : List Token) → before ts → more ts ≡ false → stop ts)
     (closed : (ts : List Token) → stop ts → more ts ≡ false)
     (over : (ts : List Token) → bound zero ts → more ts ≡ true → IsHot (X true) ts)
-    (marked : (s : S) (ts : List Token) → bound zero ts → more ts ≡ true → (X false).well s → Cold ((X true).cells s) → ⊥)
+    (marked : (s : S) (ts : List Token) → bound zero ts → more ts ≡ true → (X false).well s → KeepsLimits ((X true).cells s) → ⊥)
     (falls : (room : ℕ) (s : S) (ts rest : List Token) → bound (suc room) ts → (X false).well s → ts ≡ tokens ((X false).cells s) ++ rest → bound room rest)
     (each : (room : ℕ) (ts : List Token) → bound (suc room) ts → more ts ≡ true → Exact (X false) ts (step ts)) where
   first_opens : (s : S) (ss : List S) (room : ℕ) (ts : List Token) → (X false).well s → Opens (row X stop room (s ∷ ss)) ts → more ts ≡ true
@@ -45,14 +45,14 @@ module _ {S : Type 0} (X : Bool → Kind S) (more : List Token → Bool) (step :
   ended : (room : ℕ) (ts : List Token) → before ts → more ts ≡ false → Exact (many_kind X stop room) ts (Ok ([], ts))
   ended room ts b e = record { only = onlies; sound = (tt, refl, closes ts b e, cool) }
     where
-      onlies : (ss : List S) (rest : List Token) → all_well X stop ss → ts ≡ tokens (row X stop room ss) ++ rest → stop rest → Cold (row X stop room ss) → ◌≡◌ {A = Reads (List S)} (Ok ([], ts)) (Ok (ss, rest))
+      onlies : (ss : List S) (rest : List Token) → all_well X stop ss → ts ≡ tokens (row X stop room ss) ++ rest → stop rest → KeepsLimits (row X stop room ss) → ◌≡◌ {A = Reads (List S)} (Ok ([], ts)) (Ok (ss, rest))
       onlies [] rest w f s c = ap (λ x. Ok ([], x)) f
       onlies (s ∷ ss) rest w f st c = absurd (let h = first_opens s ss room ts w.0 (opens_spelled (row X stop room (s ∷ ss)) ts rest f) in cc)
 
       cool : IsHot (many_kind X stop room) ts → ⊥
       cool h = go h.0 h.1 h.2
         where
-          go : (ss : List S) → all_well X stop ss → Hot (row X stop room ss) ts → ⊥
+          go : (ss : List S) → all_well X stop ss → PassesLimit (row X stop room ss) ts → ⊥
           go [] w h = h
           go (s ∷ ss) w h = let k = first_opens s ss room ts w.0 (opens_hot (row X stop room (s ∷ ss)) ts h) in cc
 
@@ -72,7 +72,7 @@ module _ {S : Type 0} (X : Bool → Kind S) (more : List Token → Bool) (step :
           hot : IsHot (many_kind X stop zero) ts
           hot = (there.0 ∷ [], (alike there.0 there.1, tt), hot_left ((X true).cells there.0) [] ts there.2)
 
-          onlies : (ss : List S) (rest : List Token) → all_well X stop ss → ts ≡ tokens (row X stop zero ss) ++ rest → stop rest → Cold (row X stop zero ss) → ◌≡◌ {A = Reads (List S)} (Err TooDeep) (Ok (ss, rest))
+          onlies : (ss : List S) (rest : List Token) → all_well X stop ss → ts ≡ tokens (row X stop zero ss) ++ rest → stop rest → KeepsLimits (row X stop zero ss) → ◌≡◌ {A = Reads (List S)} (Err TooDeep) (Ok (ss, rest))
           onlies [] rest w f s c = absurd (let h = closed rest s in let g : more ts ≡ more rest = ap more f in cc)
           onlies (s ∷ ss) rest w f st c = absurd (marked s ts bd e w.0 (cold_append ((X true).cells s) (row X stop zero ss) c).0)
   many_exact (suc room) ts bd b = go (more ts) refl (λ rest. many_exact room rest)
@@ -94,7 +94,7 @@ module _ {S : Type 0} (X : Bool → Kind S) (more : List Token → Bool) (step :
               let all : List Token = tokens (row X stop room (u ∷ us)) ++ rest in
               glued s u (none room) all w v.0 (opens_left ((X (none room)).cells u) (row X stop (less room) us) all (opens_all (row X stop room (u ∷ us)) rest))
 
-          met_hot : (s : S) (ss : List S) (ts : List Token) → (X false).well s → all_well X stop ss → Hot (row X stop room ss) ts → (X false).stops s ts
+          met_hot : (s : S) (ss : List S) (ts : List Token) → (X false).well s → all_well X stop ss → PassesLimit (row X stop room ss) ts → (X false).stops s ts
           met_hot s [] ts w v h = absurd h
           met_hot s (u ∷ us) ts w v h = glued s u (none room) ts w v.0 (opens_left ((X (none room)).cells u) (row X stop (less room) us) ts (opens_hot (row X stop room (u ∷ us)) ts h))
 
@@ -102,11 +102,11 @@ module _ {S : Type 0} (X : Bool → Kind S) (more : List Token → Bool) (step :
           two = two_exact (X false) (λ s. many_kind X stop room) (λ p rest. stop rest) met met_hot (λ s ss rest h. h) (λ s ss rest r h. h) (λ s w. ([], tt)) ts (step ts) (λ p. many more step room p.1) first
               (λ s rest r st. ih rest (later s rest r) (leaves s rest st))
 
-          onlies : (ss : List S) (rest : List Token) → all_well X stop ss → ts ≡ tokens (row X stop (suc room) ss) ++ rest → stop rest → Cold (row X stop (suc room) ss) → made (λ p. p.0 ∷ p.1) (pair_of (step ts) (λ p. many more step room p.1)) ≡ Ok (ss, rest)
+          onlies : (ss : List S) (rest : List Token) → all_well X stop ss → ts ≡ tokens (row X stop (suc room) ss) ++ rest → stop rest → KeepsLimits (row X stop (suc room) ss) → made (λ p. p.0 ∷ p.1) (pair_of (step ts) (λ p. many more step room p.1)) ≡ Ok (ss, rest)
           onlies [] rest w f s c = absurd (let h = closed rest s in let g : more ts ≡ more rest = ap more f in cc)
           onlies (s ∷ ss) rest w f st c = ap (made (λ (p : S × List S). p.0 ∷ p.1)) (two.only (s, ss) rest w f st c)
 
-          cool : (IsHot (Two room) ts → ⊥) → (ss : List S) → all_well X stop ss → Hot (row X stop (suc room) ss) ts → ⊥
+          cool : (IsHot (Two room) ts → ⊥) → (ss : List S) → all_well X stop ss → PassesLimit (row X stop (suc room) ss) ts → ⊥
           cool n [] w h = h
           cool n (s ∷ ss) w h = n ((s, ss), w, h)
 
@@ -190,7 +190,7 @@ module _ {T S : Type 0} (join : T → S → T) (small big : Kind T) (X : Bool �
       let all : List Token = tokens (row X stop room (s ∷ ss)) ++ rest in
       small_glue t s (none room) all w v.0 (opens_left ((X (none room)).cells s) (row X stop (less room) ss) all (opens_all (row X stop room (s ∷ ss)) rest))
 
-  met_hot : (t : T) (ss : List S) (ts : List Token) → small.well t → all_well X stop ss → Hot (row X stop room ss) ts → small.stops t ts
+  met_hot : (t : T) (ss : List S) (ts : List Token) → small.well t → all_well X stop ss → PassesLimit (row X stop room ss) ts → small.stops t ts
   met_hot t [] ts w v h = absurd h
   met_hot t (s ∷ ss) ts w v h = small_glue t s (none room) ts w v.0 (opens_left ((X (none room)).cells s) (row X stop (less room) ss) ts (opens_hot (row X stop room (s ∷ ss)) ts h))
 
@@ -312,7 +312,7 @@ module _ {S : Type 0} (X : Kind S) (more : List Token → Bool) (step : Reader S
             let all : List Token = tokens (list_cells X (u ∷ us)) ++ rest in
             f_glue s u all w v.0 (opens_left (X.cells u) (list_cells X us) all (opens_all (list_cells X (u ∷ us)) rest))
 
-        met_hot : (s : S) (ss : List S) (ts : List Token) → F.well s → list_well X ss → Hot (list_cells X ss) ts → F.stops s ts
+        met_hot : (s : S) (ss : List S) (ts : List Token) → F.well s → list_well X ss → PassesLimit (list_cells X ss) ts → F.stops s ts
         met_hot s [] ts w v h = absurd h
         met_hot s (u ∷ us) ts w v h = f_glue s u ts w v.0 (opens_left (X.cells u) (list_cells X us) ts (opens_hot (list_cells X (u ∷ us)) ts h))
 

@@ -2,7 +2,7 @@
 use Rattle.std.proofs.Common.{◌≡◌, ◌∙◌, refl, sym, ap, subst, Bool, true, false, ◌⊎◌, inl, inr, List, [], ◌∷◌, ◌++◌, append_assoc, Option, Some, None, Ok, Err, cond}
 use Rattle.c_ast.specs.declared.token.Token.{Token}
 use Rattle.c_ast.specs.declared.fault.Fault.TheVariants.{Syntax, TooDeep}
-use Rattle.c_ast.specs.Cells.{Cell, tokens, Hot, Cold}
+use Rattle.c_ast.specs.Cells.{Cell, tokens, PassesLimit, KeepsLimits}
 use Rattle.c_parse_expr.specs.Reads.{Reads, Reader, ◌>>=◌, made, pair_of, one, one_of, at_limit, limit_fault, optional, unless, choose, build, give}
 
 -- a kind of trees: which there are, how each is spelled, and before what a reader of it stops
@@ -14,7 +14,7 @@ pub record Kind (T : Type 0) : Type 1 where
 module _ {T : Type 0} (X : Kind T) (ts : List Token) where
   -- a tree passes a limit within what the text has of it
   abbrev pub IsHot : Type 0
-  IsHot = (t : T) × X.well t × Hot (X.cells t) ts
+  IsHot = (t : T) × X.well t × PassesLimit (X.cells t) ts
 
   abbrev pub Sound : Reads T → Type 0
   Sound (Ok p) = X.well p.0 × (ts ≡ tokens (X.cells p.0) ++ p.1) × X.stops p.0 p.1 × (IsHot → ⊥)
@@ -22,7 +22,7 @@ module _ {T : Type 0} (X : Kind T) (ts : List Token) where
   Sound (Err TooDeep) = IsHot
 
   pub record Exact (r : Reads T) : Type 0 where
-    pub only : (t : T) (rest : List Token) → X.well t → ts ≡ tokens (X.cells t) ++ rest → X.stops t rest → Cold (X.cells t) → r ≡ Ok (t, rest)
+    pub only : (t : T) (rest : List Token) → X.well t → ts ≡ tokens (X.cells t) ++ rest → X.stops t rest → KeepsLimits (X.cells t) → r ≡ Ok (t, rest)
     pub sound : Sound r
 
 -- the text begins as the spelling does, up to a limit or to the spelling's end
@@ -47,40 +47,40 @@ pub tokens_append : (a b : List Cell) → tokens (a ++ b) ≡ tokens a ++ tokens
 tokens_append [] b = refl
 tokens_append (c ∷ a) b = ap (λ ts. c.0 ∷ ts) (tokens_append a b)
 
-pub hot_left : (a b : List Cell) (ts : List Token) → Hot a ts → Hot (a ++ b) ts
+pub hot_left : (a b : List Cell) (ts : List Token) → PassesLimit a ts → PassesLimit (a ++ b) ts
 hot_left [] b ts h = absurd h
 hot_left (c ∷ a) b [] h = absurd h
 hot_left (c ∷ a) b (t ∷ ts) h = (h.0, elim h.1 [ inl e ↦ inl e | inr k ↦ inr (hot_left a b ts k) ])
 
-pub hot_right : (a b : List Cell) (ts : List Token) → Hot b ts → Hot (a ++ b) (tokens a ++ ts)
+pub hot_right : (a b : List Cell) (ts : List Token) → PassesLimit b ts → PassesLimit (a ++ b) (tokens a ++ ts)
 hot_right [] b ts h = h
 hot_right (c ∷ a) b ts h = (refl, inr (hot_right a b ts h))
 
 abbrev pub After : List Cell → List Cell → List Token → Type 0
-After a b ts = (rest : List Token) × (ts ≡ tokens a ++ rest) × Hot b rest
+After a b ts = (rest : List Token) × (ts ≡ tokens a ++ rest) × PassesLimit b rest
 
-pub hot_append : (a b : List Cell) (ts : List Token) → Hot (a ++ b) ts → Hot a ts ⊎ After a b ts
+pub hot_append : (a b : List Cell) (ts : List Token) → PassesLimit (a ++ b) ts → PassesLimit a ts ⊎ After a b ts
 hot_append [] b ts h = inr (ts, refl, h)
 hot_append (c ∷ a) b [] h = absurd h
 hot_append (c ∷ a) b (t ∷ ts) h = go (hot_append a b ts) h.1
   where
-    go : (Hot (a ++ b) ts → Hot a ts ⊎ After a b ts) → (c.1 ≡ true) ⊎ Hot (a ++ b) ts → Hot (c ∷ a) (t ∷ ts) ⊎ After (c ∷ a) b (t ∷ ts)
+    go : (PassesLimit (a ++ b) ts → PassesLimit a ts ⊎ After a b ts) → (c.1 ≡ true) ⊎ PassesLimit (a ++ b) ts → PassesLimit (c ∷ a) (t ∷ ts) ⊎ After (c ∷ a) b (t ∷ ts)
     go ih (inl e) = inl (h.0, inl e)
     go ih (inr k) = elim (ih k) [ inl x ↦ inl (h.0, inr x) | inr y ↦ inr (y.0, (λ i. (sym h.0 i) ∷ (y.1 i)), y.2) ]
 
-pub cold_append : (a b : List Cell) → Cold (a ++ b) → Cold a × Cold b
+pub cold_append : (a b : List Cell) → KeepsLimits (a ++ b) → KeepsLimits a × KeepsLimits b
 cold_append [] b h = (tt, h)
 cold_append (c ∷ a) b h = ((h.0, (cold_append a b h.1).0), (cold_append a b h.1).1)
 
-pub cold_or_hot : (a : List Cell) (rest : List Token) → Cold a ⊎ Hot a (tokens a ++ rest)
+pub cold_or_hot : (a : List Cell) (rest : List Token) → KeepsLimits a ⊎ PassesLimit a (tokens a ++ rest)
 cold_or_hot [] rest = inl tt
 cold_or_hot (c ∷ a) rest = go (cold_or_hot a rest) c.1 refl
   where
-    go : Cold a ⊎ Hot a (tokens a ++ rest) → (b : Bool) → c.1 ≡ b → Cold (c ∷ a) ⊎ Hot (c ∷ a) (tokens (c ∷ a) ++ rest)
+    go : KeepsLimits a ⊎ PassesLimit a (tokens a ++ rest) → (b : Bool) → c.1 ≡ b → KeepsLimits (c ∷ a) ⊎ PassesLimit (c ∷ a) (tokens (c ∷ a) ++ rest)
     go ih true e = inr (refl, inl e)
     go ih false e = elim ih [ inl x ↦ inl (e, x) | inr y ↦ inr (refl, inr y) ]
 
-pub cold_not_hot : (cs : List Cell) (ts : List Token) → Cold cs → Hot cs ts → ⊥
+pub cold_not_hot : (cs : List Cell) (ts : List Token) → KeepsLimits cs → PassesLimit cs ts → ⊥
 cold_not_hot [] ts c h = h
 cold_not_hot (x ∷ cs) [] c h = h
 cold_not_hot (x ∷ cs) (t ∷ ts) c h = elim h.1 [ inl e ↦ (let d = c.0 in cc) | inr g ↦ cold_not_hot cs ts c.1 g ]
@@ -94,7 +94,7 @@ pub opens_all : (a : List Cell) (rest : List Token) → Opens a (tokens a ++ res
 opens_all [] rest = tt
 opens_all (c ∷ a) rest = (refl, inr (opens_all a rest))
 
-pub opens_hot : (a : List Cell) (ts : List Token) → Hot a ts → Opens a ts
+pub opens_hot : (a : List Cell) (ts : List Token) → PassesLimit a ts → Opens a ts
 opens_hot [] ts h = tt
 opens_hot (c ∷ a) [] h = h
 opens_hot (c ∷ a) (t ∷ ts) h = (h.0, elim h.1 [ inl e ↦ inl e | inr k ↦ inr (opens_hot a ts k) ])
@@ -111,7 +111,7 @@ leads_opens x b [] ts l h = absurd l
 leads_opens x b (c ∷ a) [] l h = h
 leads_opens x b (c ∷ a) (t ∷ ts) l h = sym l.0 ∙ h.0
 
-pub leads_hot : (x : Token) (a : List Cell) (ts : List Token) → Leads x true a → Heads x ts → Hot a ts
+pub leads_hot : (x : Token) (a : List Cell) (ts : List Token) → Leads x true a → Heads x ts → PassesLimit a ts
 leads_hot x [] ts l h = absurd l
 leads_hot x (c ∷ a) [] l h = h
 leads_hot x (c ∷ a) (t ∷ ts) l h = (l.0 ∙ h, inl l.1)
@@ -141,7 +141,7 @@ both_with X Y P = record {
 
 module _ {T U : Type 0} (X : Kind T) (Y : T → Kind U) (P : T × U → List Token → Type 0)
     (met : (t : T) (u : U) (rest : List Token) → X.well t → (Y t).well u → P (t, u) rest → X.stops t (tokens ((Y t).cells u) ++ rest))
-    (met_hot : (t : T) (u : U) (ts : List Token) → X.well t → (Y t).well u → Hot ((Y t).cells u) ts → X.stops t ts)
+    (met_hot : (t : T) (u : U) (ts : List Token) → X.well t → (Y t).well u → PassesLimit ((Y t).cells u) ts → X.stops t ts)
     (ended : (t : T) (u : U) (rest : List Token) → P (t, u) rest → (Y t).stops u rest)
     (ends : (t : T) (u : U) (rest : List Token) → X.stops t (tokens ((Y t).cells u) ++ rest) → (Y t).stops u rest → P (t, u) rest)
     (filler : (t : T) → X.well t → (u : U) × (Y t).well u) (ts : List Token) where
@@ -160,7 +160,7 @@ module _ {T U : Type 0} (X : Kind T) (Y : T → Kind U) (P : T × U → List Tok
         | inl c ↦ absurd (
             let first : Err Syntax ≡ Ok (h.0.0, k.0) = x.only h.0.0 k.0 h.1.0 k.1 (met_hot h.0.0 h.0.1 k.0 h.1.0 h.1.1 k.2) c in
             cc)
-        | inr m ↦ x.sound (h.0.0, h.1.0, subst (Hot (X.cells h.0.0)) (sym k.1) m)
+        | inr m ↦ x.sound (h.0.0, h.1.0, subst (PassesLimit (X.cells h.0.0)) (sym k.1) m)
       ]
     ];
   }
@@ -180,7 +180,7 @@ module _ {T U : Type 0} (X : Kind T) (Y : T → Kind U) (P : T × U → List Tok
       same t rest w e s =
           elim (cold_or_hot (X.cells t) rest) [
             | inl c ↦ (let first : Ok v ≡ Ok (t, rest) = x.only t rest w e s c in let whole : v ≡ (t, rest) = cc in (ap (λ p. p.0) whole, ap (λ p. p.1) whole))
-            | inr h ↦ absurd (x.sound.3 (t, w, subst (Hot (X.cells t)) (sym e) h))
+            | inr h ↦ absurd (x.sound.3 (t, w, subst (PassesLimit (X.cells t)) (sym e) h))
           ]
 
       second : (q : Reads U) → Exact (Y v.0) v.1 q → Exact Z ts (q >>= (λ q. Ok ((v.0, q.0), q.1)))
@@ -190,7 +190,7 @@ module _ {T U : Type 0} (X : Kind T) (Y : T → Kind U) (P : T × U → List Tok
             let both_same = same p.0 _ w.0 apart (met p.0 p.1 rest w.0 w.1 s) in
             let at = sym both_same.0 in
             let next : q ≡ Ok (p.1, rest) =
-            z.only p.1 rest (subst (λ t. (Y t).well p.1) at w.1) (both_same.1 ∙ ap (λ t. tokens ((Y t).cells p.1) ++ rest) at) (subst (λ t. (Y t).stops p.1 rest) at (ended p.0 p.1 rest s)) (subst (λ t. Cold ((Y t).cells p.1)) at (cold_append (X.cells p.0) ((Y p.0).cells p.1) c).1) in
+            z.only p.1 rest (subst (λ t. (Y t).well p.1) at w.1) (both_same.1 ∙ ap (λ t. tokens ((Y t).cells p.1) ++ rest) at) (subst (λ t. (Y t).stops p.1 rest) at (ended p.0 p.1 rest s)) (subst (λ t. KeepsLimits ((Y t).cells p.1)) at (cold_append (X.cells p.0) ((Y p.0).cells p.1) c).1) in
             ap (λ r. r >>= (λ q. Ok ((v.0, q.0), q.1))) next ∙ ap (λ t. Ok ((t, p.1), rest)) both_same.0;
         sound = sounds q z;
       }
@@ -199,14 +199,14 @@ module _ {T U : Type 0} (X : Kind T) (Y : T → Kind U) (P : T × U → List Tok
           cool n h =
               elim (hot_append (X.cells h.0.0) ((Y h.0.0).cells h.0.1) ts h.2) [
                 | inl k ↦ x.sound.3 (h.0.0, h.1.0, k)
-                | inr k ↦ (let s = same h.0.0 k.0 h.1.0 k.1 (met_hot h.0.0 h.0.1 k.0 h.1.0 h.1.1 k.2) in n (h.0.1, subst (λ t. (Y t).well h.0.1) (sym s.0) h.1.1, subst (λ t. Hot ((Y t).cells h.0.1) v.1) (sym s.0) (subst (Hot ((Y h.0.0).cells h.0.1)) (sym s.1) k.2)))
+                | inr k ↦ (let s = same h.0.0 k.0 h.1.0 k.1 (met_hot h.0.0 h.0.1 k.0 h.1.0 h.1.1 k.2) in n (h.0.1, subst (λ t. (Y t).well h.0.1) (sym s.0) h.1.1, subst (λ t. PassesLimit ((Y t).cells h.0.1) v.1) (sym s.0) (subst (PassesLimit ((Y h.0.0).cells h.0.1)) (sym s.1) k.2)))
               ]
 
           sounds : (q : Reads U) → Exact (Y v.0) v.1 q → Sound Z ts (q >>= (λ q. Ok ((v.0, q.0), q.1)))
           sounds (Ok u) z = ((x.sound.0, z.sound.0), join_at (X.cells v.0) ((Y v.0).cells u.0) ts v.1 u.1 x.sound.1 z.sound.1, ends v.0 u.0 u.1 (subst (X.stops v.0) z.sound.1 x.sound.2) z.sound.2, cool z.sound.3)
           sounds (Err Syntax) z = cool z.sound
           sounds (Err TooDeep) z =
-              ((v.0, z.sound.0), (x.sound.0, z.sound.1), subst (Hot (X.cells v.0 ++ (Y v.0).cells z.sound.0)) (sym x.sound.1) (hot_right (X.cells v.0) ((Y v.0).cells z.sound.0) v.1 z.sound.2))
+              ((v.0, z.sound.0), (x.sound.0, z.sound.1), subst (PassesLimit (X.cells v.0 ++ (Y v.0).cells z.sound.0)) (sym x.sound.1) (hot_right (X.cells v.0) ((Y v.0).cells z.sound.0) v.1 z.sound.2))
 
 -- the second's first token, if it has one, ends the first
 abbrev pub Glue_on : {T U : Type 0} → Kind T → (T → Kind U) → Type 0
@@ -254,10 +254,10 @@ module _ {T U : Type 0} (X : Kind T) (Y : T → Kind U) (glue : Glue_some X Y) (
           go [] e = s.0 e
           go (c ∷ cs) e = glue t u c cs _ w v e refl
 
-      met_hot : (t : T) (u : U) (ts : List Token) → X.well t → (Y t).well u → Hot ((Y t).cells u) ts → X.stops t ts
+      met_hot : (t : T) (u : U) (ts : List Token) → X.well t → (Y t).well u → PassesLimit ((Y t).cells u) ts → X.stops t ts
       met_hot t u ts w v h = go ((Y t).cells u) ts refl h
         where
-          go : (cs : List Cell) (ts : List Token) → (Y t).cells u ≡ cs → Hot cs ts → X.stops t ts
+          go : (cs : List Cell) (ts : List Token) → (Y t).cells u ≡ cs → PassesLimit cs ts → X.stops t ts
           go [] ts e h = absurd h
           go (c ∷ cs) [] e h = absurd h
           go (c ∷ cs) (x ∷ ts) e h = glue t u c cs (x ∷ ts) w v e h.0
@@ -276,24 +276,24 @@ module _ {S T : Type 0} (X : Kind S) (Z : Kind T) (g : S → T) (ts : List Token
   pub narrow : (r : Reads S) → Exact X ts r → Exact Z ts (made g r)
   narrow r x = record { only = onlies; sound = sounds r x.sound }
     where
-      onlies : (t : T) (rest : List Token) → Z.well t → ts ≡ tokens (Z.cells t) ++ rest → Z.stops t rest → Cold (Z.cells t) → made g r ≡ Ok (t, rest)
+      onlies : (t : T) (rest : List Token) → Z.well t → ts ≡ tokens (Z.cells t) ++ rest → Z.stops t rest → KeepsLimits (Z.cells t) → made g r ≡ Ok (t, rest)
       onlies t rest w e s c =
           let b = back t w (opens_spelled (Z.cells t) ts rest e) in
           let spelled : Z.cells t ≡ X.cells b.0 = ap Z.cells (sym b.1) ∙ same b.0 b.2 in
           let stop : Z.stops (g b.0) rest = subst (λ t. Z.stops t rest) (sym b.1) s in
-          let read = x.only b.0 rest b.2 (e ∙ ap (λ a. tokens a ++ rest) spelled) (ended b.0 rest b.2 stop) (subst Cold spelled c) in
+          let read = x.only b.0 rest b.2 (e ∙ ap (λ a. tokens a ++ rest) spelled) (ended b.0 rest b.2 stop) (subst KeepsLimits spelled c) in
           ap (made g) read ∙ ap (λ t. Ok (t, rest)) b.1
 
       cool : (IsHot X ts → ⊥) → IsHot Z ts → ⊥
       cool n h =
           let b = back h.0 h.1 (opens_hot (Z.cells h.0) ts h.2) in
           let spelled : Z.cells h.0 ≡ X.cells b.0 = ap Z.cells (sym b.1) ∙ same b.0 b.2 in
-          n (b.0, b.2, subst (λ a. Hot a ts) spelled h.2)
+          n (b.0, b.2, subst (λ a. PassesLimit a ts) spelled h.2)
 
       sounds : (r : Reads S) → Sound X ts r → Sound Z ts (made g r)
       sounds (Ok p) h = (fits p.0 h.0, h.1 ∙ ap (λ a. tokens a ++ p.1) (sym (same p.0 h.0)), ends p.0 p.1 h.0 h.2, cool h.3)
       sounds (Err Syntax) h = cool h
-      sounds (Err TooDeep) h = (g h.0, fits h.0 h.1, subst (λ a. Hot a ts) (sym (same h.0 h.1)) h.2)
+      sounds (Err TooDeep) h = (g h.0, fits h.0 h.1, subst (λ a. PassesLimit a ts) (sym (same h.0 h.1)) h.2)
 
 -- a part of a kind, where the text allows no other trees of it
 module _ {T : Type 0} (X Z : Kind T) (ts : List Token)
@@ -342,22 +342,22 @@ module _ {T : Type 0} (test : List Token → Bool) (X : Kind T) (begins : (t : T
       absent : test ts ≡ false → Exact (option_kind test X) ts (Ok (None, ts))
       absent e = record { only = onlies; sound = (tt, refl, e, λ h. cool h.0 h.1 h.2) }
         where
-          onlies : (o : Option T) (rest : List Token) → option_well X o → ts ≡ tokens (option_cells X o) ++ rest → option_stops test X o rest → Cold (option_cells X o) → ◌≡◌ {A = Reads (Option T)} (Ok (None, ts)) (Ok (o, rest))
+          onlies : (o : Option T) (rest : List Token) → option_well X o → ts ≡ tokens (option_cells X o) ++ rest → option_stops test X o rest → KeepsLimits (option_cells X o) → ◌≡◌ {A = Reads (Option T)} (Ok (None, ts)) (Ok (o, rest))
           onlies None rest w f s c = ap (λ x. Ok (None, x)) f
           onlies (Some t) rest w f s c = absurd (let h = begins t ts w (opens_spelled (X.cells t) ts rest f) in cc)
 
-          cool : (o : Option T) → option_well X o → Hot (option_cells X o) ts → ⊥
+          cool : (o : Option T) → option_well X o → PassesLimit (option_cells X o) ts → ⊥
           cool None w h = h
           cool (Some t) w h = let k = begins t ts w (opens_hot (X.cells t) ts h) in cc
 
       there : test ts ≡ true → Exact (option_kind test X) ts (made Some (a ts))
       there e = record { only = onlies; sound = sounds (a ts) (x e).sound }
         where
-          onlies : (o : Option T) (rest : List Token) → option_well X o → ts ≡ tokens (option_cells X o) ++ rest → option_stops test X o rest → Cold (option_cells X o) → made Some (a ts) ≡ Ok (o, rest)
+          onlies : (o : Option T) (rest : List Token) → option_well X o → ts ≡ tokens (option_cells X o) ++ rest → option_stops test X o rest → KeepsLimits (option_cells X o) → made Some (a ts) ≡ Ok (o, rest)
           onlies None rest w f s c = absurd (let h : test ts ≡ false = ap test f ∙ s in cc)
           onlies (Some t) rest w f s c = ap (made Some) ((x e).only t rest w f s c)
 
-          cool : (IsHot X ts → ⊥) → (o : Option T) → option_well X o → Hot (option_cells X o) ts → ⊥
+          cool : (IsHot X ts → ⊥) → (o : Option T) → option_well X o → PassesLimit (option_cells X o) ts → ⊥
           cool n None w h = h
           cool n (Some t) w h = n (t, w, h)
 
@@ -381,22 +381,22 @@ module _ {T : Type 0} (test : List Token → Bool) (X : Kind T) (begins : (t : T
       absent : test ts ≡ true → Exact (unless_kind test X) ts (Ok (None, ts))
       absent e = record { only = onlies; sound = (tt, refl, e, λ h. cool h.0 h.1 h.2) }
         where
-          onlies : (o : Option T) (rest : List Token) → option_well X o → ts ≡ tokens (option_cells X o) ++ rest → unless_stops test X o rest → Cold (option_cells X o) → ◌≡◌ {A = Reads (Option T)} (Ok (None, ts)) (Ok (o, rest))
+          onlies : (o : Option T) (rest : List Token) → option_well X o → ts ≡ tokens (option_cells X o) ++ rest → unless_stops test X o rest → KeepsLimits (option_cells X o) → ◌≡◌ {A = Reads (Option T)} (Ok (None, ts)) (Ok (o, rest))
           onlies None rest w f s c = ap (λ x. Ok (None, x)) f
           onlies (Some t) rest w f s c = absurd (let h = begins t ts w (opens_spelled (X.cells t) ts rest f) in cc)
 
-          cool : (o : Option T) → option_well X o → Hot (option_cells X o) ts → ⊥
+          cool : (o : Option T) → option_well X o → PassesLimit (option_cells X o) ts → ⊥
           cool None w h = h
           cool (Some t) w h = let k = begins t ts w (opens_hot (X.cells t) ts h) in cc
 
       there : test ts ≡ false → Exact (unless_kind test X) ts (made Some (a ts))
       there e = record { only = onlies; sound = sounds (a ts) (x e).sound }
         where
-          onlies : (o : Option T) (rest : List Token) → option_well X o → ts ≡ tokens (option_cells X o) ++ rest → unless_stops test X o rest → Cold (option_cells X o) → made Some (a ts) ≡ Ok (o, rest)
+          onlies : (o : Option T) (rest : List Token) → option_well X o → ts ≡ tokens (option_cells X o) ++ rest → unless_stops test X o rest → KeepsLimits (option_cells X o) → made Some (a ts) ≡ Ok (o, rest)
           onlies None rest w f s c = absurd (let h : test ts ≡ true = ap test f ∙ s in cc)
           onlies (Some t) rest w f s c = ap (made Some) ((x e).only t rest w f s c)
 
-          cool : (IsHot X ts → ⊥) → (o : Option T) → option_well X o → Hot (option_cells X o) ts → ⊥
+          cool : (IsHot X ts → ⊥) → (o : Option T) → option_well X o → PassesLimit (option_cells X o) ts → ⊥
           cool n None w h = h
           cool n (Some t) w h = n (t, w, h)
 
@@ -431,7 +431,7 @@ module _ {A : Type 0} (well : A → Type 0) (token_of : A → Token) where
 -- ---- where no room is left
 
 module _ {T : Type 0} (Z : Kind T) (begins : List Token → Bool) (ts : List Token)
-    (hot : (t : T) → Z.well t → Opens (Z.cells t) ts → Hot (Z.cells t) ts)
+    (hot : (t : T) → Z.well t → Opens (Z.cells t) ts → PassesLimit (Z.cells t) ts)
     (opens : (t : T) → Z.well t → Opens (Z.cells t) ts → begins ts ≡ true)
     (begun : begins ts ≡ true → IsHot Z ts) where
   pub limit_exact : Exact Z ts (at_limit begins ts)

@@ -4,5 +4,6 @@ pub mod Exact
 pub mod Chains
 pub mod Sorts
 pub mod TypeNames
+pub mod Postfixes
 pub mod Exprs
 pub mod Wholes

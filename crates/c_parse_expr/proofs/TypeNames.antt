@@ -367,7 +367,7 @@ star_opens s hot ts w o = opened (sees m.Star) (token.Mark m.Star, hot) [] ts o 
 star_over : (ts : List Token) → sees m.Star ts ≡ true → IsHot (star_kind true) ts
 star_over ts e = (tt, tt, go ts (sees_heads m.Star ts e))
   where
-    go : (ts : List Token) → Heads (token.Mark m.Star) ts → Rattle.c_ast.specs.Cells.Hot ((token.Mark m.Star, true) ∷ []) ts
+    go : (ts : List Token) → Heads (token.Mark m.Star) ts → Rattle.c_ast.specs.Cells.PassesLimit ((token.Mark m.Star, true) ∷ []) ts
     go [] h = h
     go (t ∷ ts) h = (h, inl refl)
 

@@ -8,7 +8,7 @@ use Rattle.c_ast.specs.declared.fault.Fault.{Fault}
 use Rattle.c_ast.specs.declared.fault.Fault.TheVariants.{Syntax, TooDeep}
 use Rattle.c_ast.specs.declared.expr.Expr.{Expr}
 use Rattle.c_ast.specs.Trees.{Expression, expression}
-use Rattle.c_ast.specs.Cells.{tokens, Hot}
+use Rattle.c_ast.specs.Cells.{tokens, PassesLimit}
 use Rattle.c_ast.specs.Grammar.{limit, cells}
 use Rattle.c_ast.specs.Program.{IsSpelledExpression, IsDeepExpression, IsRefusedExpression}
 use Rattle.c_parse_expr.specs.declared.error.ReadError.{ReadError}
@@ -19,7 +19,8 @@ use Rattle.c_parse_expr.specs.Reads.{Fails}
 use Rattle.c_parse_expr.specs.Reading.{expr}
 use Rattle.c_parse_expr.specs.Answers.{located_error, RefusesExpression, OnlyExpression, OnlyRefusedExpression}
 use Rattle.c_parse_expr.proofs.Exact.{Sound, cold_or_hot}
-use Rattle.c_parse_expr.proofs.Exprs.{kind, rank_small, expr_exact}
+use Rattle.c_parse_expr.proofs.Postfixes.{kind, rank_small}
+use Rattle.c_parse_expr.proofs.Exprs.{expr_exact}
 
 known : (text : List Token) (e : Expression) (rest : List Token) → expr limit text ≡ Ok (e, rest) → Sound (kind 12 limit) text (Ok (e, rest))
 known text e rest r = subst (Sound (kind 12 limit) text) r (expr_exact limit text).sound
@@ -30,7 +31,7 @@ spelled text e rest r none =
     let whole : text ≡ tokens (cells e limit) = s.1 ∙ ap (λ x. tokens (cells e limit) ++ x) none ∙ append-nil (tokens (cells e limit)) in
     elim (cold_or_hot (cells e limit) rest) as (λ h. IsSpelledExpression text e) [
       | inl c ↦ ((s.0.0, c), whole)
-      | inr h ↦ absurd (s.3 (e, s.0, subst (Hot (cells e limit)) (sym s.1) h))
+      | inr h ↦ absurd (s.3 (e, s.0, subst (PassesLimit (cells e limit)) (sym s.1) h))
     ]
 
 is_read : (text : List Token) (e : Expression) → IsSpelledExpression text e → expr limit text ≡ Ok (e, [])

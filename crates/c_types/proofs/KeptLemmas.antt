@@ -5,7 +5,8 @@ use Rattle.c_types.specs.declared.parts.Parts.{Parts}
 use Rattle.c_types.specs.declared.shape.Shape.{Shape}
 use Rattle.c_types.specs.Layout.{greatest, shape, size_of, align_of, shape_of}
 use Rattle.c_types.specs.Rounds.{shape_at}
-use Rattle.c_types.specs.Refusal.{has_bad_length, IsTooBig, NoneIs}
+use Rattle.c_types.specs.Refusal.{has_bad_length, IsTooBig}
+use Rattle.c_types.specs.Words.{NoneIs}
 use Rattle.c_types.specs.Kept.{AreCapped}
 
 pub size-small : (w : ℕ) (p : Parts) → NoneIs (IsTooBig w p) → (t : ℕ) → size_of w p t ≤ greatest

@@ -9,3 +9,4 @@ pub mod Entries
 pub mod Rounds
 pub mod Kept
 pub mod Descent
+pub mod Words

@@ -11,6 +11,7 @@ use Rattle.c_types.specs.declared.errors.BuildError.TheVariants.{Duplicate, Empt
 use Rattle.c_types.specs.Numbering.{is_well_numbered}
 use Rattle.c_types.specs.Chain.{IsCyclic}
 use Rattle.c_types.specs.Layout.{greatest, size_of}
+use Rattle.c_types.specs.Words.{NoneIs, IsLeast}
 
 pub data Entry : Type 0 where
   type_entry : Ty → Entry
@@ -67,15 +68,6 @@ is_too_big w p t = nat_lt greatest (size_of w p t) || has_bad_length (slice_get 
 
 abbrev pub IsTooBig : ℕ → Parts → ℕ → Type 0
 IsTooBig w p t = IsTrue (is_too_big w p t)
-
--- nothing is so
-abbrev pub NoneIs : (ℕ → Type 0) → Type 0
-NoneIs P = (n : ℕ) → P n → ⊥
-
--- the least number that is so
-pub record IsLeast (P : ℕ → Type 0) (n : ℕ) : Type 0 where
-  pub here : P n
-  pub before : (m : ℕ) → m < n → P m → ⊥
 
 -- what every table of types has
 pub record IsBuilt (w : ℕ) (p : Parts) : Type 0 where

@@ -1,11 +1,11 @@
 // Types that hold themselves, and pointers that lead to themselves.
 
-ghost use Rattle.std.specs.Prelude.{◌≡◌, ◌⊎◌, ℕ, ◌<◌, true, false, nat_eq, length, IsTrue, IfOk, MatchBool, MatchOption, slice_get};
+ghost use Rattle.std.specs.Prelude.{◌≡◌, ◌<◌, false, nat_eq, length, IsTrue, IfOk, slice_get};
 ghost use Rattle.std.specs.Option.{option_to_list};
 ghost use Rattle.c_types.specs.Numbering.{is_well_numbered};
 ghost use Rattle.c_types.specs.Chain.{Chain, held_by, pointed_by, IsPointer, IsCyclic};
-ghost use Rattle.c_types.specs.Rounds.{reaches, mark_at, mark_rounds};
-ghost use Rattle.c_types.specs.Refusal.{IsLeast, NoneIs};
+ghost use Rattle.c_types.specs.Rounds.{reaches, mark_at};
+ghost use Rattle.c_types.specs.Words.{Tells, IsFirst};
 
 use crate::parts::{Parts, Ty, TyId};
 use crate::rounds::all_marks;
@@ -24,7 +24,7 @@ fn mark_at(marks: &[bool], number: TyId) -> bool
 fn holds_itself(alloc: Global, parts: &Parts, number: TyId) -> Result<bool, AllocError>
     requires numbered { IsTrue (is_well_numbered parts.now) }
     requires known { number < length parts.now.types }
-    ensures { IfOk result (λ answer. MatchBool answer (Chain (held_by parts.now) number number) (Chain (held_by parts.now) number number → ⊥)) }
+    ensures { IfOk result (λ answer. Tells answer (Chain (held_by parts.now) number number)) }
 {
     let marks = all_marks(alloc, parts, Some(number), false)?;
     Ok(mark_at(&marks, number))
@@ -42,7 +42,8 @@ fn pointed(parts: &Parts, number: TyId) -> Option<TyId>
 
 /// Whether a type leads to itself through pointers and arrays.
 fn leads_to_itself(parts: &Parts, number: TyId) -> bool
-    ensures { result ≡ reaches (pointed_by parts.now) (λ v. nat_eq v number) false (length parts.now.types) number }
+    ensures { result
+        ≡ reaches (pointed_by parts.now) (λ v. nat_eq v number) false (length parts.now.types) number }
 {
     let mut at = number;
     for _ in 0..parts.types.as_slice().len() {
@@ -60,7 +61,7 @@ fn leads_to_itself(parts: &Parts, number: TyId) -> bool
 }
 
 fn is_pointer(ty: Option<Ty>) -> bool
-    ensures { MatchBool result (IsPointer ty) (IsPointer ty → ⊥) }
+    ensures { Tells result (IsPointer ty) }
 {
     matches!(ty, Some(Ty::Pointer(_)))
 }
@@ -69,7 +70,8 @@ fn is_pointer(ty: Option<Ty>) -> bool
 fn points_to_itself(parts: &Parts, number: TyId) -> bool
     requires numbered { IsTrue (is_well_numbered parts.now) }
     requires known { number < length parts.now.types }
-    ensures { MatchBool result (IsPointer (slice_get parts.now.types number) × Chain (pointed_by parts.now) number number) (IsPointer (slice_get parts.now.types number) × Chain (pointed_by parts.now) number number → ⊥) }
+    ensures { Tells result
+        (IsPointer (slice_get parts.now.types number) × Chain (pointed_by parts.now) number number) }
 {
     is_pointer(parts.find_type(number)) && leads_to_itself(parts, number)
 }
@@ -79,7 +81,7 @@ fn is_cyclic(alloc: Global, parts: &Parts, marked: bool, number: TyId) -> Result
     requires numbered { IsTrue (is_well_numbered parts.now) }
     requires known { number < length parts.now.types }
     requires marked { marked ≡ false → Chain (held_by parts.now) number number → ⊥ }
-    ensures { IfOk result (λ answer. MatchBool answer (IsCyclic parts.now number) (IsCyclic parts.now number → ⊥)) }
+    ensures { IfOk result (λ answer. Tells answer (IsCyclic parts.now number)) }
 {
     if marked && holds_itself(alloc, parts, number)? {
         return Ok(true);
@@ -87,11 +89,11 @@ fn is_cyclic(alloc: Global, parts: &Parts, marked: bool, number: TyId) -> Result
     Ok(points_to_itself(parts, number))
 }
 
-/// The first type that holds itself by value, or is a pointer that leads to itself through pointers and arrays
-/// alone.
+/// The first type that holds itself by value, or is a pointer that leads to itself through pointers
+/// and arrays alone.
 pub fn first_cycle(alloc: Global, parts: &Parts) -> Result<Option<TyId>, AllocError>
     requires { IsTrue (is_well_numbered parts.now) }
-    ensures { IfOk result (λ first. MatchOption first (NoneIs (IsCyclic parts.now)) (IsLeast (IsCyclic parts.now))) }
+    ensures { IfOk result (IsFirst (IsCyclic parts.now)) }
 {
     let marks = all_marks(alloc, parts, None, true)?;
     for number in 0..parts.types.as_slice().len() {

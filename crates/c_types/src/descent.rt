@@ -1,14 +1,13 @@
 // Parts of types: where a step leads, and which part has a byte.
 
-ghost use Rattle.std.specs.Prelude.{◌≡◌, ℕ, ◌+◌, ◌-◌, ◌*◌, ◌<◌, ◌≤◌, ◌^◌, [], ◌∷◌, length, Some, None, IfSome, nat_lt, if◌then◌else◌, slice_get};
-ghost use Rattle.std.specs.Option.{option_map};
+ghost use Rattle.std.specs.Prelude.{◌≡◌, ◌+◌, ◌-◌, ◌<◌, ◌≤◌, ◌^◌, length, Some, None, IfSome, nat_lt, if◌then◌else◌, slice_get};
 ghost use Rattle.lu_spec.specs.Then.{then_option};
 ghost use Rattle.c_types.specs.declared.path.Step.TheVariants as Step;
 ghost use Rattle.c_types.specs.declared.parts.Ty.TheVariants as Ty;
-ghost use Rattle.c_types.specs.Layout.{greatest, size_of, nth_start, field_offset, member_offset};
+ghost use Rattle.c_types.specs.Layout.{greatest, size_of, nth_start};
 ghost use Rattle.c_types.specs.Rounds.{shape_at, AreSmall};
 ghost use Rattle.c_types.specs.Kept.{IsKept};
-ghost use Rattle.c_types.specs.Place.{place, shifted, step_place, path_place};
+ghost use Rattle.c_types.specs.Place.{shifted, step_place, path_place};
 ghost use Rattle.c_types.specs.Descent.{part, part_in_fields, part_in_array, part_at};
 
 use crate::parts::{FieldDef, POINTER_SIZE, Parts, Ty, TyId};
@@ -47,7 +46,8 @@ fn nth_start(shapes: &[Shape], fields: &[FieldDef], number: u32, field: FieldDef
 /// A field of a struct type; none where the type is no struct.
 fn field_place(parts: &Parts, shapes: &[Shape], number: TyId, k: u32) -> Option<Place>
     requires { IsKept POINTER_SIZE parts.now shapes.now }
-    ensures { result ≡ step_place POINTER_SIZE parts.now (slice_get parts.now.types number) (Step.Field k) }
+    ensures { result
+        ≡ step_place POINTER_SIZE parts.now (slice_get parts.now.types number) (Step.Field k) }
 {
     let Some(Ty::Struct(tag)) = parts.find_type(number) else {
         return None;
@@ -63,7 +63,8 @@ fn field_place(parts: &Parts, shapes: &[Shape], number: TyId, k: u32) -> Option<
 /// A member of a union type; none where the type is no union.
 fn member_place(parts: &Parts, shapes: &[Shape], number: TyId, k: u32) -> Option<Place>
     requires { IsKept POINTER_SIZE parts.now shapes.now }
-    ensures { result ≡ step_place POINTER_SIZE parts.now (slice_get parts.now.types number) (Step.Member k) }
+    ensures { result
+        ≡ step_place POINTER_SIZE parts.now (slice_get parts.now.types number) (Step.Member k) }
 {
     let Some(Ty::Union(tag)) = parts.find_type(number) else {
         return None;
@@ -79,7 +80,8 @@ fn member_place(parts: &Parts, shapes: &[Shape], number: TyId, k: u32) -> Option
 /// An element of an array type; none where the type is no array.
 fn element_place(parts: &Parts, shapes: &[Shape], number: TyId, k: u32) -> Option<Place>
     requires { IsKept POINTER_SIZE parts.now shapes.now }
-    ensures { result ≡ step_place POINTER_SIZE parts.now (slice_get parts.now.types number) (Step.Index k) }
+    ensures { result
+        ≡ step_place POINTER_SIZE parts.now (slice_get parts.now.types number) (Step.Index k) }
 {
     let Some(Ty::Array(element, count)) = parts.find_type(number) else {
         return None;
@@ -110,8 +112,11 @@ fn step_place(parts: &Parts, shapes: &[Shape], number: TyId, step: Step) -> Opti
 fn next_place(parts: &Parts, shapes: &[Shape], at: Place, step: Step) -> Option<Place>
     requires kept { IsKept POINTER_SIZE parts.now shapes.now }
     requires inside { at.offset + size_of POINTER_SIZE parts.now at.ty ≤ greatest }
-    ensures value { result ≡ then_option (step_place POINTER_SIZE parts.now (slice_get parts.now.types at.ty) step) (shifted at.offset) }
-    ensures inside { IfSome result (λ to. to.offset + size_of POINTER_SIZE parts.now to.ty ≤ greatest) }
+    ensures value { result ≡ then_option
+        (step_place POINTER_SIZE parts.now (slice_get parts.now.types at.ty) step)
+        (shifted at.offset) }
+    ensures inside { IfSome result
+        (λ to. to.offset + size_of POINTER_SIZE parts.now to.ty ≤ greatest) }
 {
     match step_place(parts, shapes, at.ty, step) {
         None => None,
@@ -142,7 +147,8 @@ pub fn path_place(parts: &Parts, shapes: &[Shape], number: TyId, path: &[Step]) 
 
 /// A field that begins at `start`, unless the offset comes before.
 fn part_from(start: u64, offset: u32, number: u32, ty: TyId) -> Option<Part>
-    ensures { result ≡ (if nat_lt offset start then None else Some (part (Step.Field number) ty (offset - start))) }
+    ensures { result ≡ (if nat_lt offset start
+        then None else Some (part (Step.Field number) ty (offset - start))) }
 {
     if (offset as u64) < start {
         None

@@ -1,9 +1,10 @@
 // What stands twice in a table, and what has no field.
 
-ghost use Rattle.std.specs.Prelude.{◌≡◌, ◌⊎◌, ℕ, ◌+◌, ◌<◌, ◌≤◌, ◌^◌, [], length, IfOk, MatchBool, MatchOption, IsTrue, IsSomeAnd, slice_get};
+ghost use Rattle.std.specs.Prelude.{◌≡◌, ℕ, ◌<◌, length, IfOk, IsTrue, IsSomeAnd, slice_get};
 ghost use Rattle.std.specs.Option.{option_map};
 ghost use Rattle.c_types.specs.Numbering.{are_countable};
-ghost use Rattle.c_types.specs.Refusal.{entries, Clashes, HasNameBefore, NamesTwice, HasNameTwice, ClashesBefore, IsDuplicate, HasNoField, IsEmpty, IsLeast, NoneIs};
+ghost use Rattle.c_types.specs.Refusal.{entries, Clashes, HasNameBefore, NamesTwice, HasNameTwice, ClashesBefore, IsDuplicate, HasNoField, IsEmpty};
+ghost use Rattle.c_types.specs.Words.{Tells, IsFirst};
 ghost use Rattle.c_types.specs.Entries.{entry_of, IsRepeated};
 
 use crate::parts::{FieldDef, Parts, Signature, TagDef, Ty};
@@ -57,19 +58,19 @@ fn entry_at(parts: &Parts, number: u64) -> Option<Entry<'_>>
 }
 
 fn same_type(a: &Ty, b: &Ty) -> bool
-    ensures { MatchBool result (a.now ≡ b.now) (a.now ≡ b.now → ⊥) }
+    ensures { Tells result (a.now ≡ b.now) }
 {
     a == b
 }
 
 fn same_signature(a: &Signature, b: &Signature) -> bool
-    ensures { MatchBool result (a.now ≡ b.now) (a.now ≡ b.now → ⊥) }
+    ensures { Tells result (a.now ≡ b.now) }
 {
     a.result == b.result && a.params.as_slice() == b.params.as_slice()
 }
 
 fn clashes(a: Entry, b: Entry) -> bool
-    ensures { MatchBool result (Clashes (entry_of a.entry) (entry_of b.entry)) (Clashes (entry_of a.entry) (entry_of b.entry) → ⊥) }
+    ensures { Tells result (Clashes (entry_of a.entry) (entry_of b.entry)) }
 {
     match (a, b) {
         (Entry::Type(a), Entry::Type(b)) => same_type(a, b),
@@ -81,7 +82,8 @@ fn clashes(a: Entry, b: Entry) -> bool
 
 /// The entries before this number clash with no entry of this kind.
 fn first_rival(parts: &Parts, here: Entry) -> u64
-    ensures { (k : ℕ) → k < result → IsSomeAnd (slice_get (entries parts.now) k) (λ d. Clashes d (entry_of here.entry)) → ⊥ }
+    ensures { (k : ℕ) → k < result →
+        IsSomeAnd (slice_get (entries parts.now) k) (λ d. Clashes d (entry_of here.entry)) → ⊥ }
 {
     let types = parts.types.as_slice().len() as u64;
     match here {
@@ -92,7 +94,7 @@ fn first_rival(parts: &Parts, here: Entry) -> u64
 }
 
 fn clashes_before(parts: &Parts, number: u64, here: Entry) -> bool
-    ensures { MatchBool result (ClashesBefore (entries parts.now) number (entry_of here.entry)) (ClashesBefore (entries parts.now) number (entry_of here.entry) → ⊥) }
+    ensures { Tells result (ClashesBefore (entries parts.now) number (entry_of here.entry)) }
 {
     for m in first_rival(parts, here)..number {
         if let Some(earlier) = entry_at(parts, m) {
@@ -107,7 +109,7 @@ fn clashes_before(parts: &Parts, number: u64, here: Entry) -> bool
 /// Whether the k-th name stands earlier too.
 fn name_before(fields: &[FieldDef], k: usize) -> bool
     requires { k < length fields.now }
-    ensures { MatchBool result (HasNameBefore fields.now k) (HasNameBefore fields.now k → ⊥) }
+    ensures { Tells result (HasNameBefore fields.now k) }
 {
     for j in 0..k {
         if fields[j].name == fields[k].name {
@@ -118,7 +120,7 @@ fn name_before(fields: &[FieldDef], k: usize) -> bool
 }
 
 fn names_twice(fields: &[FieldDef]) -> bool
-    ensures { MatchBool result (NamesTwice fields.now) (NamesTwice fields.now → ⊥) }
+    ensures { Tells result (NamesTwice fields.now) }
 {
     for k in 0..fields.len() {
         if name_before(fields, k) {
@@ -129,7 +131,7 @@ fn names_twice(fields: &[FieldDef]) -> bool
 }
 
 fn has_name_twice(here: Entry) -> bool
-    ensures { MatchBool result (HasNameTwice (entry_of here.entry)) (HasNameTwice (entry_of here.entry) → ⊥) }
+    ensures { Tells result (HasNameTwice (entry_of here.entry)) }
 {
     match here {
         Entry::Tag(tag) => names_twice(tag.fields.as_slice()),
@@ -138,7 +140,7 @@ fn has_name_twice(here: Entry) -> bool
 }
 
 fn has_no_field(here: Entry) -> bool
-    ensures { MatchBool result (HasNoField (entry_of here.entry)) (HasNoField (entry_of here.entry) → ⊥) }
+    ensures { Tells result (HasNoField (entry_of here.entry)) }
 {
     match here {
         Entry::Tag(tag) => tag.fields.as_slice().is_empty(),
@@ -147,7 +149,7 @@ fn has_no_field(here: Entry) -> bool
 }
 
 fn is_duplicate(parts: &Parts, number: u64) -> bool
-    ensures { MatchBool result (IsDuplicate parts.now number) (IsDuplicate parts.now number → ⊥) }
+    ensures { Tells result (IsDuplicate parts.now number) }
 {
     match entry_at(parts, number) {
         None => false,
@@ -156,7 +158,7 @@ fn is_duplicate(parts: &Parts, number: u64) -> bool
 }
 
 fn is_empty(parts: &Parts, number: u64) -> bool
-    ensures { MatchBool result (IsEmpty parts.now number) (IsEmpty parts.now number → ⊥) }
+    ensures { Tells result (IsEmpty parts.now number) }
 {
     match entry_at(parts, number) {
         None => false,
@@ -166,7 +168,7 @@ fn is_empty(parts: &Parts, number: u64) -> bool
 
 /// The first type that equals an earlier one.
 fn first_repeated(alloc: Global, types: &[Ty]) -> Result<Option<usize>, AllocError>
-    ensures { IfOk result (λ first. MatchOption first (NoneIs (IsRepeated types.now)) (IsLeast (IsRepeated types.now))) }
+    ensures { IfOk result (IsFirst (IsRepeated types.now)) }
 {
     let mut seen = HashSet::new(alloc);
     for (number, ty) in types.iter().enumerate() {
@@ -177,11 +179,11 @@ fn first_repeated(alloc: Global, types: &[Ty]) -> Result<Option<usize>, AllocErr
     Ok(None)
 }
 
-/// The first entry that is a type or signature equal to an earlier one, or a struct or union that has the tag of
-/// an earlier one or a field name twice.
+/// The first entry that is a type or signature equal to an earlier one, or a struct or union that
+/// has the tag of an earlier one or a field name twice.
 pub fn first_duplicate(alloc: Global, parts: &Parts) -> Result<Option<u64>, AllocError>
     requires { IsTrue (are_countable parts.now) }
-    ensures { IfOk result (λ first. MatchOption first (NoneIs (IsDuplicate parts.now)) (IsLeast (IsDuplicate parts.now))) }
+    ensures { IfOk result (IsFirst (IsDuplicate parts.now)) }
 {
     let types = parts.types.as_slice();
     if let Some(number) = first_repeated(alloc, types)? {
@@ -198,7 +200,7 @@ pub fn first_duplicate(alloc: Global, parts: &Parts) -> Result<Option<u64>, Allo
 /// The first entry that is a struct or union with no field.
 pub fn first_empty(parts: &Parts) -> Option<u64>
     requires { IsTrue (are_countable parts.now) }
-    ensures { MatchOption result (NoneIs (IsEmpty parts.now)) (IsLeast (IsEmpty parts.now)) }
+    ensures { IsFirst (IsEmpty parts.now) result }
 {
     for number in 0..entry_count(parts) {
         if is_empty(parts, number) {

@@ -1,6 +1,6 @@
-//! Types of C that name each other by number: their sizes, alignments and offsets in bytes, and the places of an
-//! object. A table is built of `Parts` that are `well_numbered`; `specs/` has the definitions that its contracts
-//! cite, and `proofs/` laws about them.
+//! Types of C that name each other by number: their sizes, alignments and offsets in bytes, and the
+//! places of an object. A table is built of `Parts` that are `well_numbered`; `specs/` has the
+//! definitions that its contracts cite, and `proofs/` laws about them.
 #![tactic(auto)]
 
 mod cycles;

@@ -110,8 +110,8 @@ fn signatures_are_numbered(parts: &Parts, signatures: &[Signature]) -> bool
         .all(|signature| signature_is_numbered(parts, signature))
 }
 
-/// Whether each number of a type, struct, union or signature names an entry, no array's element is an array,
-/// and each list has fewer than 4,294,967,295 entries.
+/// Whether each number of a type, struct, union or signature names an entry, no array's element is an
+/// array, and each list has fewer than 4,294,967,295 entries.
 pub fn well_numbered(parts: &Parts) -> bool
     ensures { result ≡ is_well_numbered parts.now }
 {

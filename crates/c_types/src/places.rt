@@ -1,6 +1,6 @@
 // The place at an offset of an object.
 
-ghost use Rattle.std.specs.Prelude.{◌≡◌, ℕ, ◌+◌, ◌<◌, List, [], ◌∷◌, length, IfOk, is_some};
+ghost use Rattle.std.specs.Prelude.{◌≡◌, ◌<◌, length, IfOk, is_some};
 ghost use Rattle.c_types.specs.Layout.{size_of};
 ghost use Rattle.c_types.specs.Kept.{IsKept};
 ghost use Rattle.c_types.specs.Descent.{part_in_array, is_here, find_place};
@@ -38,7 +38,8 @@ pub fn find_place(
 ) -> Result<Option<Path>, AllocError>
     requires kept { IsKept POINTER_SIZE parts.now shapes.now }
     requires known { elem < length parts.now.types }
-    ensures { IfOk result (λ path. path ≡ find_place POINTER_SIZE parts.now elem count offset want) }
+    ensures { IfOk result
+        (λ path. path ≡ find_place POINTER_SIZE parts.now elem count offset want) }
 {
     let Some(first) = element_at(parts, shapes, elem, count, offset) else {
         return Ok(None);

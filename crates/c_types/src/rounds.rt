@@ -1,10 +1,9 @@
 // Shapes and marks of all types, by rounds over the whole table until nothing changes.
 
-ghost use Rattle.std.specs.Prelude.{◌≡◌, ℕ, ◌+◌, ◌<◌, ◌≤◌, ◌^◌, [], ◌∷◌, map, replicate, length, IsTrue, IfOk, MatchBool};
+ghost use Rattle.std.specs.Prelude.{◌≡◌, map, replicate, length, IsTrue, IfOk};
 ghost use Rattle.std.specs.List.{list_any};
 ghost use Rattle.c_types.specs.Numbering.{is_well_numbered};
-ghost use Rattle.c_types.specs.Chain.{field_types, held_in};
-ghost use Rattle.c_types.specs.Rounds.{shape_at, shape_rounds, round_shape, AreSmall, is_target, mark_at, is_marked, round_mark, mark_rounds};
+ghost use Rattle.c_types.specs.Rounds.{shape_at, shape_rounds, round_shape, AreSmall, is_marked, round_mark, mark_rounds};
 
 use crate::parts::{FieldDef, POINTER_SIZE, Parts, Ty, TyId};
 use crate::shape::{Shape, type_shape};
@@ -24,7 +23,8 @@ fn one_each<T: Copy>(alloc: Global, value: T, count: usize) -> Result<Vec<T>, Al
 fn next_shapes(alloc: Global, parts: &Parts, shapes: &[Shape]) -> Result<Vec<Shape>, AllocError>
     requires numbered { IsTrue (is_well_numbered parts.now) }
     requires known { AreSmall (shape_at shapes.now) }
-    ensures value { IfOk result (λ next. next.items ≡ map (round_shape POINTER_SIZE parts.now shapes.now) parts.now.types) }
+    ensures value { IfOk result (λ next. next.items
+        ≡ map (round_shape POINTER_SIZE parts.now shapes.now) parts.now.types) }
     ensures small { IfOk result (λ next. AreSmall (shape_at next.items)) }
 {
     let mut next = Vec::new(alloc);
@@ -43,7 +43,8 @@ fn same_shapes(a: &[Shape], b: &[Shape]) -> bool
 /// The shapes of all types, with sizes above the greatest kept as the next number.
 pub fn all_shapes(alloc: Global, parts: &Parts) -> Result<Vec<Shape>, AllocError>
     requires { IsTrue (is_well_numbered parts.now) }
-    ensures value { IfOk result (λ shapes. shapes.items ≡ shape_rounds POINTER_SIZE parts.now (length parts.now.types)) }
+    ensures value { IfOk result (λ shapes. shapes.items
+        ≡ shape_rounds POINTER_SIZE parts.now (length parts.now.types)) }
     ensures small { IfOk result (λ shapes. AreSmall (shape_at shapes.items)) }
 {
     let count = parts.types.as_slice().len();
@@ -95,7 +96,8 @@ fn next_marks(
     target: Option<TyId>,
     marks: &[bool],
 ) -> Result<Vec<bool>, AllocError>
-    ensures { IfOk result (λ next. next.items ≡ map (round_mark parts.now target marks.now) parts.now.types) }
+    ensures { IfOk result (λ next. next.items
+        ≡ map (round_mark parts.now target marks.now) parts.now.types) }
 {
     let mut next = Vec::new(alloc);
     for ty in parts.types.as_slice() {
@@ -110,15 +112,16 @@ fn same_marks(a: &[bool], b: &[bool]) -> bool
     a == b
 }
 
-/// Marks the types that hold the target, or a type that is marked, by as many rounds as there are types. Before
-/// the first round each type is marked, or none.
+/// Marks the types that hold the target, or a type that is marked, by as many rounds as there are
+/// types. Before the first round each type is marked, or none.
 pub fn all_marks(
     alloc: Global,
     parts: &Parts,
     target: Option<TyId>,
     start: bool,
 ) -> Result<Vec<bool>, AllocError>
-    ensures { IfOk result (λ marks. marks.items ≡ mark_rounds parts.now target start (length parts.now.types)) }
+    ensures { IfOk result (λ marks. marks.items
+        ≡ mark_rounds parts.now target start (length parts.now.types)) }
 {
     let count = parts.types.as_slice().len();
     let mut marks = one_each(alloc, start, count)?;

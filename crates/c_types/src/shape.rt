@@ -1,8 +1,8 @@
 // The shape of one type, from those of the types that it holds.
 
-ghost use Rattle.std.specs.Prelude.{◌≡◌, ℕ, ◌+◌, ◌-◌, ◌*◌, ◌<◌, ◌≤◌, ◌^◌, length, IsTrue};
+ghost use Rattle.std.specs.Prelude.{◌≡◌, ◌+◌, ◌-◌, ◌*◌, ◌<◌, ◌≤◌, ◌^◌, length, IsTrue};
 ghost use Rattle.c_types.specs.Numbering.{is_well_numbered};
-ghost use Rattle.c_types.specs.Layout.{greatest, shape, next_multiple, int_size, greatest_align, greatest_size, fields_end, members_start, struct_shape, union_shape, shape_step};
+ghost use Rattle.c_types.specs.Layout.{greatest, shape, next_multiple, int_size, greatest_align, greatest_size, fields_end, members_start, struct_shape, union_shape};
 ghost use Rattle.c_types.specs.Rounds.{shape_at, capped, round_shape, IsSmall, AreSmall};
 
 use crate::parts::{FieldDef, IntKind, POINTER_SIZE, Parts, Ty, TyId};

@@ -1,10 +1,11 @@
 // A table of types with their sizes and alignments.
 
-ghost use Rattle.std.specs.Prelude.{◌≡◌, ℕ, ◌<◌, length, IsTrue, IfOk, IfErr, OnOk, MatchBool, MatchOption, slice_get};
+ghost use Rattle.std.specs.Prelude.{◌≡◌, ◌<◌, length, IsTrue, IfOk, IfErr, OnOk, MatchBool, MatchOption};
 ghost use Rattle.c_types.specs.Numbering.{is_well_numbered};
 ghost use Rattle.c_types.specs.Layout.{size_of, align_of};
 ghost use Rattle.c_types.specs.Place.{path_offset, path_type, IsPlaceAt, HasPlaceAt, HasNoPlaceAt};
-ghost use Rattle.c_types.specs.Refusal.{has_bad_length, is_too_big, IsTooBig, IsLeast, NoneIs, IsBuilt, Refuses};
+ghost use Rattle.c_types.specs.Refusal.{has_bad_length, is_too_big, IsTooBig, IsBuilt, Refuses};
+ghost use Rattle.c_types.specs.Words.{IsFirst};
 ghost use Rattle.c_types.specs.Kept.{AreCapped};
 
 use crate::cycles::first_cycle;
@@ -59,7 +60,7 @@ fn is_too_big(parts: &Parts, shapes: &[Shape], number: TyId) -> bool
 fn first_too_big(parts: &Parts, shapes: &[Shape]) -> Option<TyId>
     requires numbered { IsTrue (is_well_numbered parts.now) }
     requires shapes { AreCapped POINTER_SIZE parts.now shapes.now }
-    ensures { MatchOption result (NoneIs (IsTooBig POINTER_SIZE parts.now)) (IsLeast (IsTooBig POINTER_SIZE parts.now)) }
+    ensures { IsFirst (IsTooBig POINTER_SIZE parts.now) result }
 {
     for number in 0..parts.types.as_slice().len() {
         let number = number as TyId;
@@ -126,7 +127,8 @@ impl TypeTable {
         })
     }
 
-    /// The bytes from the start of a type to where a path of it leads; 0 where it is no path of the type.
+    /// The bytes from the start of a type to where a path of it leads; 0 where it is no path of the
+    /// type.
     pub fn offset_of(&self, number: TyId, path: &[Step]) -> u32
         ensures { result ≡ path_offset POINTER_SIZE self.now number path.now }
     {
@@ -146,7 +148,8 @@ impl TypeTable {
         }
     }
 
-    /// The place of type `want` at an offset in bytes of an object of so many elements, outside unions.
+    /// The place of type `want` at an offset in bytes of an object of so many elements, outside
+    /// unions.
     pub fn place_at(
         &self,
         alloc: Global,
@@ -156,7 +159,9 @@ impl TypeTable {
         want: TyId,
     ) -> Result<Option<Path>, Memory>
         requires { elem < length self.now.types }
-        ensures { IfOk result (λ found. MatchOption found (HasNoPlaceAt POINTER_SIZE self.now elem count offset want) (IsPlaceAt POINTER_SIZE self.now elem count offset want)) }
+        ensures { IfOk result (λ found. MatchOption found
+            (HasNoPlaceAt POINTER_SIZE self.now elem count offset want)
+            (IsPlaceAt POINTER_SIZE self.now elem count offset want)) }
     {
         Ok(find_place(alloc, &self.parts, &self.shapes, elem, count, offset, want)?)
     }
@@ -164,7 +169,9 @@ impl TypeTable {
     /// Whether there is such a place.
     pub fn fits(&self, elem: TyId, count: u32, offset: u32, want: TyId) -> bool
         requires { elem < length self.now.types }
-        ensures { MatchBool result (HasPlaceAt POINTER_SIZE self.now elem count offset want) (HasNoPlaceAt POINTER_SIZE self.now elem count offset want) }
+        ensures { MatchBool result
+            (HasPlaceAt POINTER_SIZE self.now elem count offset want)
+            (HasNoPlaceAt POINTER_SIZE self.now elem count offset want) }
     {
         has_place(&self.parts, &self.shapes, elem, count, offset, want)
     }

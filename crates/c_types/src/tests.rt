@@ -1,4 +1,4 @@
-// Layouts against C's rules, worked by hand with 4-byte pointers and each alignment equal to the size.
+// Layouts against C's rules, worked by hand: pointers of 4 bytes, and each alignment as the size.
 
 use crate::{
     BuildError, FieldDef, IntKind, Parts, Path, Sequence, Signature, Step, TagDef, Ty, TypeTable,

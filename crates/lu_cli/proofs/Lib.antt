@@ -1,2 +1,4 @@
 mod SequenceLemmas
 mod TranscriptLemmas
+mod TopLemmas
+mod Rows

@@ -1,7 +1,6 @@
 -- Writing one piece after another.
 use Rattle.std.proofs.Common.{◌≡◌, ℕ, List, [], ◌++◌, Option, Some, None, Result, Ok, Err, IfSome, refl, sym, ap, subst, ◌∙◌, append_assoc}
 use Rattle.std.proofs.lemmas.List.{append-nil}
-use Rattle.lu_spec.specs.Prefix.{IsPrefix}
 use Rattle.lu_cli.specs.Sequence.{WroteFront, Wrote}
 
 -- a part of the whole was written, and the rest remains
@@ -23,11 +22,14 @@ pub so_far-stop : (held now next : Option (List ℕ)) (whole piece remaining : L
     → IfSome now (λ b. WroteFront b piece next) → IfSome held (λ before. WroteFront before whole next)
 so_far-stop None now next whole piece remaining s wrote = tt
 so_far-stop (Some before) now next whole piece remaining s wrote =
-    let front = subst (λ o. IfSome o (λ b. WroteFront b piece next)) s.1 wrote in
-    (s.0 ++ front.0,
-        (front.1.0 ++ remaining,
-            s.2 ∙ ap (λ l. s.0 ++ (l ++ remaining)) front.1.1 ∙ ap (λ l. s.0 ++ l) (append_assoc front.0 front.1.0 remaining) ∙ sym (append_assoc s.0 front.0 (front.1.0 ++ remaining))),
-        front.2 ∙ ap (λ l. Some l) (append_assoc before s.0 front.0))
+    let front = subst (λ o. IfSome o (λ b. WroteFront b piece next)) s.1 wrote in (
+      s.0 ++ front.0,
+      (
+        front.1.0 ++ remaining,
+        s.2 ∙ ap (λ l. s.0 ++ (l ++ remaining)) front.1.1 ∙ ap (λ l. s.0 ++ l) (append_assoc front.0 front.1.0 remaining) ∙ sym (append_assoc s.0 front.0 (front.1.0 ++ remaining)),
+      ),
+      front.2 ∙ ap (λ l. Some l) (append_assoc before s.0 front.0),
+    )
 
 pub so_far-end : (held now : Option (List ℕ)) (whole : List ℕ) → IfSome held (λ before. SoFar before whole [] now) → IfSome held (λ before. now ≡ Some (before ++ whole))
 so_far-end None now whole s = tt
@@ -45,9 +47,11 @@ wrote-then None now next first second r a b = tt
 wrote-then (Some before) now next first second (Ok x) a b =
     let wrote = subst (λ o. IfSome o (λ b. next ≡ Some (b ++ second))) a b in wrote ∙ ap (λ l. Some l) (append_assoc before first second)
 wrote-then (Some before) now next first second (Err x) a b =
-    let front = subst (λ o. IfSome o (λ b. WroteFront b second next)) a b in
-    (first ++ front.0, (front.1.0, ap (λ l. first ++ l) front.1.1 ∙ sym (append_assoc first front.0 front.1.0)),
-        front.2 ∙ ap (λ l. Some l) (append_assoc before first front.0))
+    let front = subst (λ o. IfSome o (λ b. WroteFront b second next)) a b in (
+      first ++ front.0,
+      (front.1.0, ap (λ l. first ++ l) front.1.1 ∙ sym (append_assoc first front.0 front.1.0)),
+      front.2 ∙ ap (λ l. Some l) (append_assoc before first front.0),
+    )
 
 pub wrote-stop : (held next : Option (List ℕ)) (first second : List ℕ) → IfSome held (λ before. WroteFront before first next)
     → IfSome held (λ before. WroteFront before (first ++ second) next)

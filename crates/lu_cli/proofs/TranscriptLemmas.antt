@@ -1,5 +1,5 @@
 -- The parts of a run's text.
-use Rattle.std.proofs.Common.{◌≡◌, ◌≤◌, ℕ, List, [], ◌∷◌, ◌++◌, length, slice_index_or, Option, IfSome, refl, sym, ap, subst, ◌∙◌, append_assoc, arith}
+use Rattle.std.proofs.Common.{◌≡◌, ◌≤◌, ℕ, List, [], ◌∷◌, ◌++◌, length, slice_index_or, Option, IfSome, sym, ap, subst, ◌∙◌, append_assoc, arith}
 use Rattle.std.proofs.lemmas.List.{append-nil}
 use Rattle.lu_lines.specs.declared.note.Note.TheVariants as note
 use Rattle.lu_first.specs.declared.setup.Event.{Event}
@@ -29,5 +29,5 @@ pub step-stop : (held now next : Option (List ℕ)) (whole : List ℕ) (s t : Se
 step-stop held now next whole s t w [] e some is same so_far wrote = absurd (omega arith)
 step-stop held now next whole s t w (first ∷ later) e some is same so_far wrote =
     so_far-stop held now next whole (lines_bytes (world_step s w first).notes) (told_from s (world_step s w first).world later) so_far
-        (subst (λ r. IfSome now (λ b. WroteFront b (lines_bytes (world_step r w first).notes) next)) same
-            (subst (λ f. IfSome now (λ b. WroteFront b (lines_bytes (world_step t w f).notes) next)) is wrote))
+    (subst (λ r. IfSome now (λ b. WroteFront b (lines_bytes (world_step r w first).notes) next)) same
+    (subst (λ f. IfSome now (λ b. WroteFront b (lines_bytes (world_step t w f).notes) next)) is wrote))

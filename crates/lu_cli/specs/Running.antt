@@ -1,5 +1,5 @@
 -- A running system as a world.
-use Rattle.std.specs.Prelude.{◌≡◌, List}
+use Rattle.std.specs.Prelude.{◌≡◌}
 use Rattle.lu_first.specs.SetupData.{SetupData, setup_data}
 use Rattle.lu_cli.specs.declared.system.System.{System}
 use Rattle.lu_cli.specs.World.{World}

@@ -1,5 +1,5 @@
 -- What was written on the way to a whole text.
-use Rattle.std.specs.Prelude.{◌≡◌, ℕ, List, [], ◌++◌, Option, Some, Result, Ok, Err}
+use Rattle.std.specs.Prelude.{◌≡◌, ℕ, List, ◌++◌, Option, Some, Result, Ok, Err}
 use Rattle.lu_spec.specs.Prefix.{IsPrefix}
 
 -- a front of the text was written

@@ -1,13 +1,14 @@
 -- What a run of the program says of the words, the files and what was written.
-use Rattle.std.specs.Prelude.{◌≡◌, ◌⊎◌, ℕ, List, [], ◌∷◌, ◌++◌, Bool, true, false, ◌&&◌, not, nat_eq, Option, Some, None, String, string_bytes, if◌then◌else◌, codes}
+use Rattle.std.specs.Prelude.{◌≡◌, ◌≤◌, ℕ, List, [], ◌∷◌, ◌++◌, Bool, false, ◌&&◌, not, nat_eq, Option, Some, None, String, string_bytes, if◌then◌else◌, codes}
 use Rattle.std.specs.declared.alloc.Global.{Global}
 use Rattle.std.specs.Str.{bytes_eq}
-use Rattle.lu_spec.specs.Prefix.{IsPrefix}
+use Rattle.lu_spec.specs.Fault.{HasRisen}
 use Rattle.lu_base.specs.Files.{Files}
 use Rattle.lu_base.specs.declared.status.Status.{Status}
 use Rattle.lu_base.specs.declared.status.Status.TheVariants.{Done, Usage, ReadFault, Refused, WriteFault, Memory}
 use Rattle.lu_first.specs.SetupData.{SetupData}
 use Rattle.lu_first.specs.Setup.{StandsFor}
+use Rattle.lu_cli.specs.Sequence.{WroteFront}
 use Rattle.lu_cli.specs.Transcript.{transcript}
 
 -- a plan's name: not empty, and it doesn't begin with `-`
@@ -30,26 +31,18 @@ abbrev pub whole_text : Option SetupData → List ℕ
 whole_text (Some setup) = transcript setup
 whole_text None = refused_line
 
--- nothing, or a front of that text
-abbrev pub WritesPart : List ℕ → List ℕ → Type 0
-WritesPart text w = IsPrefix w text
+-- What each status says of the files and of what was written, behind what stood there before.
+-- The transcript was written whole where the files stand for a setup, the line where they stand for none;
+-- with a failed read nothing, and with a failed write or want of memory a front of what was to be written.
+abbrev pub RunAnswers : Files → List ℕ → List ℕ → Option (List ℕ) → Status → Type 0
+RunAnswers files plan before after Done = (setup : SetupData) × StandsFor files plan (Some setup) × (after ≡ Some (before ++ transcript setup))
+RunAnswers files plan before after Refused = StandsFor files plan None × (after ≡ Some (before ++ refused_line))
+RunAnswers files plan before after Usage = ⊥
+RunAnswers files plan before after ReadFault = after ≡ Some before
+RunAnswers files plan before after WriteFault = (found : Option SetupData) × StandsFor files plan found × WroteFront before (whole_text found) after
+RunAnswers files plan before after Memory = (found : Option SetupData) × StandsFor files plan found × WroteFront before (whole_text found) after
 
--- What was written, w, with a status, where the files stand for that setup or for none.
-abbrev pub Writes : Option SetupData → Status → List ℕ → Type 0
-Writes (Some setup) Done w = w ≡ transcript setup
-Writes None Done w = ⊥
-Writes found Usage w = w ≡ []
-Writes found ReadFault w = w ≡ []
-Writes (Some setup) Refused w = ⊥
-Writes None Refused w = w ≡ refused_line
-Writes found WriteFault w = IsPrefix w (whole_text found)
-Writes found Memory w = IsPrefix w (whole_text found)
-
--- the files stand for a setup or for none, and what was written is as the status says
-abbrev pub RunAnswers : Files → List ℕ → Status → List ℕ → Type 0
-RunAnswers files plan status w = (found : Option SetupData) × StandsFor files plan found × Writes found status w
-
--- the same for the words; with words that aren't accepted nothing is written
-abbrev pub TopAnswers : Files → Option (List ℕ) → Status → List ℕ → Type 0
-TopAnswers files (Some plan) status w = RunAnswers files plan status w
-TopAnswers files None status w = w ≡ []
+-- the count of faults never falls, and the status is answered only where it has risen
+pub record OnlyRisen (fault : Status) (before now : ℕ) (status : Status) : Type 0 where
+  pub later : before ≤ now
+  pub risen : status ≡ fault → HasRisen before now

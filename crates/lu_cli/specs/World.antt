@@ -1,5 +1,5 @@
 -- The world of one server, and what each event makes of it and tells.
-use Rattle.std.specs.Prelude.{ℕ, ℤ, pos, List, [], ◌∷◌, ◌++◌, map, replicate}
+use Rattle.std.specs.Prelude.{ℤ, pos, List, [], ◌∷◌, ◌++◌, map, replicate}
 use Rattle.lu_base.specs.declared.message.Message.{Message}
 use Rattle.lu_lines.specs.declared.note.Note.{Note}
 use Rattle.lu_lines.specs.declared.note.Note.TheVariants as note

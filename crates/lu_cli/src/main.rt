@@ -2,12 +2,13 @@
 #![tactic(auto)]
 
 mod system;
+#[cfg(test)]
+mod tests;
 mod top;
 
 use lu_base::{FileShelf, OutSink, Status};
-use std::env;
-use std::io;
 use std::process::ExitCode;
+use std::{env, io};
 use top::top;
 
 fn main(rt: HostRuntime) -> io::Result<ExitCode> {

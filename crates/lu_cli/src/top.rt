@@ -1,12 +1,12 @@
-ghost use Rattle.std.specs.Prelude.{◌≡◌, ◌≤◌, ◌↔◌, ◌++◌, ◌∷◌, [], true, Some, None, IfSome, OnOk, IsErrOf};
+ghost use Rattle.std.specs.Prelude.{◌≡◌, ◌≤◌, ◌↔◌, ◌++◌, ◌∷◌, [], Some, None, IfSome, OnOk};
 ghost use Rattle.std.specs.Option.{option_copied};
-ghost use Rattle.lu_spec.specs.Fault.{IsCaused, HasRisen};
+ghost use Rattle.lu_spec.specs.Fault.{IsCaused};
 ghost use Rattle.src_model.specs.First.{AreActsWithin};
 ghost use Rattle.lu_first.specs.SetupData.{setup_data};
 ghost use Rattle.lu_lines.specs.Line.{line_bytes};
 ghost use Rattle.lu_cli.specs.Running.{world_of, setup_of, IsLoaded};
 ghost use Rattle.lu_cli.specs.Sequence.{Wrote};
-ghost use Rattle.lu_cli.specs.Top.{plan_of_words, is_plan_word, refused_line};
+ghost use Rattle.lu_cli.specs.Top.{plan_of_words, is_plan_word, refused_line, RunAnswers, OnlyRisen};
 ghost use Rattle.lu_cli.specs.Transcript.{told_from, whole_run, end_line, lines_bytes, transcript};
 ghost use Rattle.lu_cli.specs.World.{world_step};
 ghost use Rattle.lu_cli.specs.Stops.{status_of};
@@ -23,10 +23,34 @@ pub fn top<S: Shelf, K: Sink>(
     words: &[String],
     shelf: &mut S,
     sink: &mut K,
-) -> Status {
-    let Some(plan) = plan_word(words) else {
-        return Status::Usage;
-    };
+) -> Status
+    // `Usage` is answered exactly where the words are no accepted form, and then nothing was read or written.
+    ensures usage { (result ≡ Status.Usage) ↔ (plan_of_words words.now ≡ None) }
+    ensures untouched { result ≡ Status.Usage → (shelf.new ≡ shelf.old) × (sink.new ≡ sink.old) }
+
+    ensures kept { S.holds shelf.new ≡ S.holds shelf.old }
+    ensures read_fault { OnlyRisen Status.ReadFault (S.faults shelf.old) (S.faults shelf.new) result }
+    ensures write_fault { OnlyRisen Status.WriteFault (K.faults sink.old) (K.faults sink.new) result }
+
+    // Where the words are accepted, the shelf tells what it holds and the sink what it wrote.
+    ensures answer { IfSome (plan_of_words words.now) (λ plan. IfSome (S.holds shelf.old) (λ files. IfSome (K.wrote sink.old) (λ before.
+        RunAnswers files plan before (K.wrote sink.new) result))) }
+{
+    match plan_word(words) {
+        Some(plan) => run_plan(alloc, plan, shelf, sink),
+        None => Status::Usage,
+    }
+}
+
+// Runs the plan of that name.
+fn run_plan<S: Shelf, K: Sink>(alloc: Global, plan: &str, shelf: &mut S, sink: &mut K) -> Status
+    ensures accepted { result ≡ Status.Usage → ⊥ }
+    ensures kept { S.holds shelf.new ≡ S.holds shelf.old }
+    ensures read_fault { OnlyRisen Status.ReadFault (S.faults shelf.old) (S.faults shelf.new) result }
+    ensures write_fault { OnlyRisen Status.WriteFault (K.faults sink.old) (K.faults sink.new) result }
+    ensures answer { IfSome (S.holds shelf.old) (λ files. IfSome (K.wrote sink.old) (λ before.
+        RunAnswers files plan.now before (K.wrote sink.new) result)) }
+{
     match load(alloc, plan, shelf) {
         Ok(setup) => done_or_fault(run(alloc, &setup, sink), Status::Done),
         Err(LoadError::Unbuilt) => done_or_fault(refuse(sink), Status::Refused),

@@ -11,5 +11,5 @@ mod GrammarLemmas
 mod ActLemmas
 mod SourceLemmas
 mod PlanReading
-mod SetupLemmas
+pub mod SetupLemmas
 mod WithinLemmas

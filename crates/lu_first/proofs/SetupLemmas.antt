@@ -125,3 +125,7 @@ pub answers-told : (held : Option Files) (plan : List ℕ) (r : Result Setup Loa
     → IfSome held (λ files. MatchResult r (λ s. setup_at files plan ≡ Some (setup_data s)) (IsLoadRefusal (setup_at files plan))) → IfSome held (λ files. LoadAnswers files plan r)
 answers-told None plan r h = h
 answers-told (Some files) plan r h = answers files plan r h
+
+-- files stand for a setup or for none
+pub stands-decided : (files : Files) (plan : List ℕ) → (found : Option SetupData) × StandsFor files plan found
+stands-decided files plan = (setup_at files plan, stands files plan (setup_at files plan) refl)

@@ -93,7 +93,7 @@ abbrev pub update_line : Text → List Text → Text
 update_line update words = codes "update" ++ further_words (update ∷ words)
 
 -- the bytes of a note's line
-abbrev pub line_bytes : Note → Text
+unfoldable pub line_bytes : Note → Text
 line_bytes (note.Boot server) = codes "boot" ++ further_words (server ∷ [])
 line_bytes (note.Reply server client kind arg) =
     codes "reply" ++ further_words (server ∷ signed_decimal client ∷ signed_decimal kind ∷ map signed_decimal (shown_arguments arg))

@@ -17,6 +17,7 @@ pub fn line_of(alloc: Global, note: &Note) -> Result<Bytes8, Memory>
     Ok(Bytes8::new(line.into_bytes()))
 }
 
+#[tactic(auto, unfolding(crate::specs::Line::line_bytes))]
 fn text_of(alloc: Global, note: &Note) -> Result<String, Memory>
     ensures { IfOk result (λ line. string_bytes line ≡ line_bytes note.now) }
 {

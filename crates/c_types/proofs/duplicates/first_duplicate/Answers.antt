@@ -1,7 +1,8 @@
 use Rattle.std.proofs.Common.{◌≡◌, ◌<◌, ap, subst, ℕ, List, length, Some, Option, slice_get, ◌⊎◌, arith}
 use Rattle.std.specs.Prelude.{MatchOption}
 use Rattle.c_types.specs.declared.parts.Ty.{Ty}
-use Rattle.c_types.specs.Refusal.{entries, ClashesBefore, HasNameTwice, IsLeast, NoneIs}
+use Rattle.c_types.specs.Refusal.{entries, ClashesBefore, HasNameTwice}
+use Rattle.c_types.specs.Words.{IsLeast, NoneIs}
 use Rattle.c_types.specs.Entries.{IsRepeated}
 use Rattle.c_types.proofs.Lists.{within-some_and}
 use Rattle.c_types.proofs.Repeats.{duplicate-repeated, repeated-duplicate}

@@ -11,7 +11,7 @@ invariant-loop-rest g l = record {
   later : g.K.Sink.faults l.fn.sink ≤ g.K.Sink.faults l.sink;
   so_far : IfSome (g.K.Sink.wrote l.fn.sink) (λ before.
       SoFar before (told_from (setup_of l.fn.system) (world_of l.fn.system) l.events)
-          (told_from (setup_of l.fn.system) (world_of l.system) l.rest) (g.K.Sink.wrote l.sink))
+      (told_from (setup_of l.fn.system) (world_of l.system) l.rest) (g.K.Sink.wrote l.sink));
 }
 
 abbrev pub decreases-loop-rest : goal.decreases-loop-rest

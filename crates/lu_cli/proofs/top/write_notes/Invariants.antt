@@ -6,7 +6,7 @@ use Rattle.lu_cli.proofs.top.write_notes.Given as goal
 abbrev pub invariant-loop-rest : goal.invariant-loop-rest
 invariant-loop-rest g l = record {
   later : g.K.Sink.faults l.fn.sink ≤ g.K.Sink.faults l.sink;
-  so_far : IfSome (g.K.Sink.wrote l.fn.sink) (λ before. SoFar before (lines_bytes l.notes) (lines_bytes l.rest) (g.K.Sink.wrote l.sink))
+  so_far : IfSome (g.K.Sink.wrote l.fn.sink) (λ before. SoFar before (lines_bytes l.notes) (lines_bytes l.rest) (g.K.Sink.wrote l.sink));
 }
 
 abbrev pub decreases-loop-rest : goal.decreases-loop-rest

@@ -1,7 +1,8 @@
 use Rattle.std.proofs.Common.{◌∙◌, ap, subst, lit≤, length}
 use Rattle.std.specs.Prelude.{MatchOption}
 use Rattle.c_types.specs.Chain.{IsCyclic}
-use Rattle.c_types.specs.Refusal.{NoneIs, IsLeast, IsDuplicate}
+use Rattle.c_types.specs.Refusal.{IsDuplicate}
+use Rattle.c_types.specs.Words.{NoneIs, IsLeast}
 use Rattle.c_types.specs.Rounds.{shape_at}
 use Rattle.c_types.specs.Kept.{AreCapped}
 use Rattle.c_types.proofs.Capped.{rounds-capped}
