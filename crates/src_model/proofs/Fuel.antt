@@ -131,7 +131,7 @@ module _ (c : Context) (b : ℕ) (spends : Spends b c.call) where
   assign_within to r s le = rhs_within r s _ le (λ v next k. gives_within s.ticks (assigned (scope_of c next) to v) next _ k (λ store. k))
 
 -- a piece of text that leaves no more ticks than it had
-abbrev Keeps : ℕ → (State → Outcome) → Type 0
+abbrev pub Keeps : ℕ → (State → Outcome) → Type 0
 Keeps b run = (s : State) → s.ticks ≤ b → Within s.ticks (run s)
 
 turns_within : (n b : ℕ) (test : State → Gives Bool) (body step : State → Outcome) → Keeps b body → Keeps b step → (s : State) → s.ticks ≤ b → s.ticks < n → Within s.ticks (turns n test body step s)

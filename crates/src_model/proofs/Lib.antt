@@ -6,3 +6,4 @@ mod ByteExamples
 pub mod Fuel
 pub mod LayoutLengths
 pub mod PartBytes
+pub mod FuelSame

@@ -21,6 +21,9 @@ use Rattle.src_model.specs.declared.value.Object.{Object}
 use Rattle.src_model.specs.declared.value.Store.{Store}
 use Rattle.src_model.specs.declared.expr.TypedExpr.{TypedExpr}
 use Rattle.src_model.specs.declared.expr.TypedPlace.{TypedPlace}
+use Rattle.std.specs.Prelude.{slice_get}
+use Rattle.std.specs.Option.{option_map}
+use Rattle.src_model.specs.Weight.{weight}
 use Rattle.src_model.specs.Objects.{addresses, has_room}
 use Rattle.src_model.proofs.Sample.{parts, program, num, long, expr, at, two, value, global, out_type, out_arg, set, set_local, reply, Seen, sends, trap, seen}
 
@@ -233,6 +236,11 @@ runs :
     × (seen many_sends ≡ trap (X.Panic (negsuc 11)) 18)
 unfolding V.shape-the_row-Value-0 V.hidden-the_row-Value-0 V.shown-the_row-Value-0 V.shape-the_row-Value-1 V.hidden-the_row-Value-1 V.shown-the_row-Value-1 E.shape-the_row-TypedExpr-1 E.hidden-the_row-TypedExpr-1 E.shape-the_row-TypedPlace-0 E.hidden-the_row-TypedPlace-0 S.shape-the_row-TypedStmt-0 S.hidden-the_row-TypedStmt-0 S.shape-the_row-TypedStmt-1 S.hidden-the_row-TypedStmt-1 denote.Hole.Carrier.hidden Rattle.src_model.specs.declared.value.Value.TheViews.out-Value denote.Hole.Carrier.out denote.Hole.Carrier.shown
 runs = (refl, refl, refl, refl, refl, refl, refl, refl, refl)
+
+-- a declaration 1, the loop 18, the assignment 6, the call 4
+weight_of_loop : option_map weight (slice_get loop.functions 1) ≡ Some 29
+unfolding V.shape-the_row-Value-0 V.hidden-the_row-Value-0 V.shown-the_row-Value-0 V.shape-the_row-Value-1 V.hidden-the_row-Value-1 V.shown-the_row-Value-1 E.shape-the_row-TypedExpr-1 E.hidden-the_row-TypedExpr-1 E.shape-the_row-TypedPlace-0 E.hidden-the_row-TypedPlace-0 S.shape-the_row-TypedStmt-0 S.hidden-the_row-TypedStmt-0 S.shape-the_row-TypedStmt-1 S.hidden-the_row-TypedStmt-1 denote.Hole.Carrier.hidden Rattle.src_model.specs.declared.value.Value.TheViews.out-Value denote.Hole.Carrier.out denote.Hole.Carrier.shown
+weight_of_loop = refl
 
 -- objects without their elements
 abbrev bare : O'.ObjectKind → ℕ → ℕ → Object

@@ -12,3 +12,4 @@ pub mod Initial
 pub mod Delivery
 pub mod Store
 pub mod ValueBytes
+pub mod Weight
