@@ -1,5 +1,5 @@
 -- Any two fuels above the ticks give one end: the fuel is no part of what a call means.
-use Rattle.std.proofs.Common.{◌≡◌, ◌∙◌, refl, ap, ℕ, zero, suc, ◌<◌, ◌≤◌, Bool, true, false, List, [], ◌∷◌, Option, Some, None, Result, Ok, Err, arith}
+use Rattle.std.proofs.Common.{◌≡◌, ◌∙◌, refl, ap, ℕ, zero, suc, ◌<◌, ◌≤◌, Bool, true, false, List, [], ◌∷◌, Option, Some, None, Ok, Err, arith}
 use Rattle.std.specs.Prelude.{slice_get, nat_lt}
 use Rattle.lu_spec.specs.Then.{then_do}
 use Rattle.src_model.specs.declared.value.Value.{Value, Int, Null, Pointer, Function}
@@ -13,8 +13,8 @@ use Rattle.src_model.specs.declared.program.Function as F
 use Rattle.src_model.specs.declared.program.Program.{Program}
 use Rattle.src_model.specs.Objects.{Gives}
 use Rattle.src_model.specs.Sending.{World}
-use Rattle.src_model.specs.Call.{State, Ending, Outcome, Goes_on, Breaks, Continues, Leaves, Callee, Context, with_gives, go_on, tick_at, tick, branch, test_in, test_of, value_in, values_in, resume, call_pointer, perform, call_of, rhs_in, declare, return_of, assign, after_turn, turns, run_statement, run_row, run_body, fall_off, types_of, entry_locals, enter, with_frame, call_with, greatest_depth}
-use Rattle.src_model.proofs.Fuel.{IsWithin, Within, Spends, Keeps, statement_within, row_within, body_within, call_with_within}
+use Rattle.src_model.specs.Call.{State, Ending, Outcome, Goes_on, Breaks, Continues, Leaves, Callee, Context, with_gives, go_on, tick_at, tick, branch, test_in, test_of, value_in, values_in, resume, call_pointer, perform, call_of, rhs_in, declare, return_of, after_turn, turns, run_statement, run_row, run_body, fall_off, types_of, entry_locals, enter, with_frame, call_with, greatest_depth}
+use Rattle.src_model.proofs.Fuel.{Within, Spends, Keeps, statement_within, row_within, call_with_within}
 
 -- two callees that end alike as long as no more than b ticks are left
 abbrev pub AreAlike : ℕ → Callee → Callee → Type 0

@@ -1,14 +1,13 @@
 -- The weight of a function: one for each statement in its body, the assignments of a `for` too; one for each variable,
 -- number, `sizeof` and operator of its expressions and places, one for each function's name that stands as a value,
 -- and one for each call. The body's own block and conversions that the text doesn't write add nothing.
-use Rattle.std.specs.Prelude.{ℕ, zero, suc, ◌+◌, List, [], ◌∷◌, Option, Some, None}
+use Rattle.std.specs.Prelude.{ℕ, ◌+◌, List, [], ◌∷◌, Option}
 use Rattle.std.specs.Option.{option_map_or}
 use Rattle.src_model.specs.declared.expr.TypedExpr.{TypedExpr}
-use Rattle.src_model.specs.declared.expr.TypedPlace.{TypedPlace}
 use Rattle.src_model.specs.declared.expr.ExprKind.{ExprKind, Number, SizeOf, Local, Function as Function_name, Load', AddressOf', Decay', Cast', Convert', Unary', Binary', Logical', Conditional', Row_of-TypedExpr, end_of-TypedExpr, more_of-TypedExpr}
 use Rattle.src_model.specs.declared.expr.PlaceKind.{PlaceKind, Global, Deref', Arrow', Item', Element', Field', Member', Row_of-TypedPlace, end_of-TypedPlace, more_of-TypedPlace}
 use Rattle.src_model.specs.declared.stmt.Callee.{Callee}
-use Rattle.src_model.specs.declared.stmt.Callee.TheVariants.{Function as Named, Pointer, Send, Malloc, Calloc, Free, Panic}
+use Rattle.src_model.specs.declared.stmt.Callee.TheVariants.{Pointer, Malloc, Calloc}
 use Rattle.src_model.specs.declared.stmt.Call as Text
 use Rattle.src_model.specs.declared.stmt.Rhs.{Rhs}
 use Rattle.src_model.specs.declared.stmt.Rhs.TheVariants.{Value as Plain, Call as Result_of}
