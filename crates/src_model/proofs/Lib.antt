@@ -1,0 +1,9 @@
+mod IntegerExamples
+mod Sample
+mod RunExamples
+mod TrapExamples
+mod ByteExamples
+pub mod Fuel
+pub mod LayoutLengths
+pub mod PartBytes
+pub mod FuelSame

@@ -1,1 +1,15 @@
 pub mod First
+pub mod Integers
+pub mod Paths
+pub mod Objects
+pub mod Pointers
+pub mod Operators
+pub mod Expression
+pub mod Assignment
+pub mod Sending
+pub mod Call
+pub mod Initial
+pub mod Delivery
+pub mod Store
+pub mod ValueBytes
+pub mod Weight

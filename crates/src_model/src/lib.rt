@@ -1,4 +1,16 @@
-//! What programs mean.
+//! Programs of the C subset with their types, the values and stores that they run on, and what they mean.
+//! The trees stand in `program`, `stmt`, `expr` and `value`. The meaning stands in `specs/`: `Integers`, `Pointers` and
+//! `Operators`, then `Expression` and `Assignment`, then `Call` and `Delivery`; `Objects` has addresses and the heap,
+//! `Store` says which stores are a program's, and `ValueBytes` lays values out as bytes.
 #![tactic(auto)]
 
+mod copy;
+mod copy_expr;
+mod copy_stmt;
+pub mod expr;
 pub mod first;
+pub mod program;
+pub mod stmt;
+#[cfg(test)]
+mod tests;
+pub mod value;
