@@ -4,7 +4,7 @@ ghost use Rattle.std.specs.Prelude.{◌≡◌, ◌<◌, ◌^◌, slice_get};
 ghost use Rattle.bm_alu.specs.Words.{int_kinds, extended, transformed};
 
 use crate::binary::word_of;
-use c_types::parts::IntKind;
+use c_types::IntKind;
 use lu_base::Trap;
 
 /// An operation on one word.

@@ -1,9 +1,7 @@
 // A program for the machine.
 
 use bm_isa::Instr;
-use c_types::parts::TyId;
-use c_types::sequence::Sequence;
-use c_types::table::TypeTable;
+use c_types::{Sequence, TyId, TypeTable};
 use lu_base::{Bytes8, Name};
 
 /// A function.

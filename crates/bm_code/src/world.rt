@@ -1,6 +1,6 @@
 // What a server knows of those around it.
 
-use c_types::sequence::Sequence;
+use c_types::Sequence;
 
 /// The numbers that `send` goes by.
 #[derive(Drop)]

@@ -20,8 +20,7 @@ use bm_alu::normalize;
 use bm_code::operation::Reading;
 use bm_mem::Bytes;
 use bm_objects::{Objects, Row};
-use c_types::parts::IntKind;
-use c_types::table::TypeTable;
+use c_types::{IntKind, TypeTable};
 use lu_base::Trap;
 
 /// The object of an address, if it is live and has so many bytes from there on.

@@ -13,7 +13,7 @@ use crate::frame::Frame;
 use bm_alu::normalize;
 use bm_code::operation::Pointing;
 use bm_objects::{Objects, Row};
-use c_types::parts::IntKind;
+use c_types::IntKind;
 use lu_base::Trap;
 
 /// The object that has an address among its bytes or as its end.

@@ -11,7 +11,7 @@ ghost use Rattle.bm_run.specs.Transferred.{IsTransferred, IsEntering, IsFunction
 use crate::calls::{Calls, Mode, Stop, spend, stop_by};
 use bm_code::code::{MachineCode, MachineFunction};
 use bm_code::operation::Transfer;
-use c_types::parts::Signature;
+use c_types::Signature;
 use lu_base::Trap;
 
 /// Goes on at a place of the function without the topmost words.

@@ -4,10 +4,7 @@ ghost use Rattle.std.specs.Prelude.{◌<◌, IfOk, length};
 use crate::space::{Space, allocate, free};
 use bm_code::code::MachineCode;
 use bm_mem::VecBytes;
-use c_types::numbering::well_numbered;
-use c_types::parts::{IntKind, Parts, Ty};
-use c_types::sequence::Sequence;
-use c_types::table::TypeTable;
+use c_types::{IntKind, Parts, Sequence, Ty, TypeTable, well_numbered};
 use std::alloc::Global;
 use std::test::Fail;
 
