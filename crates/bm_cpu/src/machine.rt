@@ -13,7 +13,7 @@ ghost use Rattle.bm_cpu.specs.Accepted.{IsAccepted, HasParameters};
 ghost use Rattle.bm_cpu.specs.Globals.{idle_process, initial_process};
 ghost use Rattle.bm_cpu.specs.State.{is_running, with_process, with_content, started, without_sends, no_world};
 
-use crate::objects::{heap_bytes, next_address, put_globals, put_object};
+use crate::objects::{FIRST_ADDRESS, heap_bytes, next_address, put_globals, put_object};
 use bm_code::code::MachineCode;
 use bm_code::world::World;
 use bm_frame::frame::Frame;
@@ -90,8 +90,12 @@ impl<'a, B: Bytes> Machine<'a, B> {
         requires fresh { B.content mem ≡ empty }
         ensures { IfOk result (λ machine. machine ≡ record { process = initial_process code.now; code = code.now; world = no_world }) }
     {
-        let mut space = Space::fresh(alloc);
-        space.memory = mem;
+        let mut space = Space {
+            memory: mem,
+            objects: Objects::fresh(alloc),
+            next: FIRST_ADDRESS,
+            used: 0,
+        };
         put_globals(code, &mut space)?;
         Ok(Machine {
             code,

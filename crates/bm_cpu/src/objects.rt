@@ -15,6 +15,9 @@ use bm_space::space::Space;
 use c_types::{Ty, TyId};
 use lu_base::Memory;
 
+/// The address of the first object.
+pub(crate) const FIRST_ADDRESS: u64 = 0x1000;
+
 /// The bytes of the heap that an object has.
 fn heap_part(row: Row) -> u32
     ensures { result ≡ heap_part row }
@@ -138,7 +141,7 @@ pub(crate) fn next_address(objects: &Objects) -> u64
 {
     let count = objects.len();
     if count == 0 {
-        0x1000
+        FIRST_ADDRESS
     } else {
         address_after(objects.row(count - 1))
     }
