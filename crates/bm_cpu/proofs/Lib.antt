@@ -1,1 +1,5 @@
+mod AcceptedLemmas
+mod GlobalLemmas
+mod Rows
+mod Spaces
 mod WordLemmas

@@ -1,1 +1,4 @@
+pub mod Accepted
+pub mod Globals
+pub mod State
 pub mod Words

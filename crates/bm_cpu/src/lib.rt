@@ -2,3 +2,5 @@
 #![tactic(auto)]
 
 pub mod first;
+pub mod machine;
+mod objects;

@@ -4,3 +4,5 @@
 pub mod outbox;
 pub mod outgoing;
 pub mod service;
+#[cfg(test)]
+mod tests;
