@@ -37,6 +37,7 @@ impl Outbox {
         })
     }
 
+    /// How many messages wait.
     pub fn len(&self) -> usize
         ensures count { result ≡ length self.now }
         ensures bound { length self.now ≤ 16 }
@@ -44,6 +45,7 @@ impl Outbox {
         self.sends.len()
     }
 
+    /// Whether none waits.
     pub fn is_empty(&self) -> bool
         ensures { result ≡ (length self.now == 0) }
     {

@@ -1,4 +1,4 @@
-use Rattle.std.proofs.Common.{◌<◌, [], arith, subst, sym}
+use Rattle.std.proofs.Common.{◌<◌, arith, subst, sym}
 use Rattle.std.specs.Prelude.{All}
 use Rattle.bm_objects.specs.Table.{end_of}
 use Rattle.bm_serve.proofs.tests.fresh_at.Goals as goal
