@@ -13,7 +13,7 @@ use Rattle.c_types.specs.Recursion.{at_type, by_fuel, depth, IsLocal}
 use Rattle.c_types.specs.Refusal.{IsBuilt}
 use Rattle.c_types.proofs.Settled.{by_type-is, depth-falls}
 use Rattle.c_types.proofs.ShapeLaws.{settled}
-use Rattle.src_model.specs.declared.value.Value.{Value, Int, Null, Struct, Array, Union}
+use Rattle.src_model.specs.declared.value.Value.{Value, Null, Struct, Array, Union}
 use Rattle.src_model.specs.declared.program.Init.{Init, List as Init_list}
 use Rattle.src_model.specs.declared.program.Init.TheBlock as I
 use Rattle.src_model.specs.Paths.{first_member, zero_step, zero_of}
@@ -118,8 +118,8 @@ filled_more f first ts items next t h e n =
     record {
       begin = omega (arith, long);
       are = n ∙ ap (λ vs. vs ++ f t ∷ []) h.are
-        ∙ append_assoc first (map f (take j (drop k ts))) (f t ∷ [])
-        ∙ ap (λ vs. first ++ vs) (sym (map-append f (take j (drop k ts)) (t ∷ [])) ∙ ap (map f) (sym (take-more (drop k ts) j t found) ∙ ap (λ n. take n (drop k ts)) more));
+          ∙ append_assoc first (map f (take j (drop k ts))) (f t ∷ [])
+          ∙ ap (λ vs. first ++ vs) (sym (map-append f (take j (drop k ts)) (t ∷ [])) ∙ ap (map f) (sym (take-more (drop k ts) j t found) ∙ ap (λ n. take n (drop k ts)) more));
     }
 
 pub filled_full : (f : ℕ → Value) (first : List Value) (ts : List ℕ) (items : List Value) → IsFilled f first ts items → slice_get ts (length items) ≡ None → items ≡ first ++ map f (drop (length first) ts)

@@ -197,11 +197,7 @@ fn items_of(alloc: Global, value: Value) -> Items<Value>
 }
 
 /// A global with its initialiser's value.
-fn initial_object(
-    alloc: Global,
-    p: &Program,
-    global: &GlobalVariable,
-) -> Result<Object, Memory>
+fn initial_object(alloc: Global, p: &Program, global: &GlobalVariable) -> Result<Object, Memory>
     ensures { IfOk result (λ object. object ≡ initial_object p.now global.now) }
 {
     let value = initial_value(alloc, p, global.ty, &global.init)?;

@@ -1,4 +1,4 @@
-use Rattle.std.proofs.Common.{◌∙◌, ◌≡◌, ℕ, refl, sym, ap, subst, List, [], ◌∷◌, ◌++◌, slice_get}
+use Rattle.std.proofs.Common.{◌∙◌, ◌≡◌, sym, ap, subst, List, [], ◌∷◌, ◌++◌, slice_get}
 use Rattle.std.specs.Prelude.{IfOk}
 use Rattle.src_model.specs.declared.value.Value.{Value}
 use Rattle.src_model.specs.Initial.{item_types, composed, spread, initial_scope, initial_value}
