@@ -1,8 +1,14 @@
+pub mod Wrapping
+pub mod ConstantLayers
+pub mod ConstantValues
+pub mod InitialLemmas
 mod IntegerExamples
 mod Sample
 mod RunExamples
 mod TrapExamples
 mod ByteExamples
+mod BudgetExamples
+mod AssignmentExamples
 pub mod Fuel
 pub mod LayoutLengths
 pub mod PartBytes

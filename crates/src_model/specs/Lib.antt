@@ -8,6 +8,7 @@ pub mod Expression
 pub mod Assignment
 pub mod Sending
 pub mod Call
+pub mod Constant
 pub mod Initial
 pub mod Delivery
 pub mod Store

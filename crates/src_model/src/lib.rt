@@ -4,13 +4,18 @@
 //! `Store` says which stores are a program's, and `ValueBytes` lays values out as bytes.
 #![tactic(auto)]
 
+pub mod constant;
 mod copy;
 mod copy_expr;
 mod copy_stmt;
 pub mod expr;
 pub mod first;
+mod initial;
+mod integers;
 pub mod program;
 pub mod stmt;
 #[cfg(test)]
 mod tests;
 pub mod value;
+
+pub use initial::initial_store;
