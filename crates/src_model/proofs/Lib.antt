@@ -7,3 +7,7 @@ pub mod Fuel
 pub mod LayoutLengths
 pub mod PartBytes
 pub mod FuelSame
+pub mod ValidTrees
+pub mod ValidBounds
+pub mod ValidRows
+pub mod ValidTypeFacts

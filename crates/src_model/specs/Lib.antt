@@ -22,3 +22,4 @@ pub mod ValidInitialiser
 pub mod ValidNumbering
 pub mod ValidNames
 pub mod Valid
+pub mod ValidSeen

@@ -13,5 +13,10 @@ pub mod program;
 pub mod stmt;
 #[cfg(test)]
 mod tests;
+mod valid_depth;
+mod valid_expr;
+mod valid_fits;
 mod valid_names;
+mod valid_stmt;
+mod valid_types;
 pub mod value;
