@@ -11,3 +11,4 @@ pub mod ValidTrees
 pub mod ValidBounds
 pub mod ValidRows
 pub mod ValidTypeFacts
+pub mod ValidMarks

@@ -17,6 +17,7 @@ mod valid_depth;
 mod valid_expr;
 mod valid_fits;
 mod valid_names;
+mod valid_numbering;
 mod valid_stmt;
 mod valid_types;
 pub mod value;

@@ -1,6 +1,6 @@
 // Types as the rules of the language ask for them.
 
-ghost use Rattle.std.specs.Prelude.{◌≡◌, ◌≤◌, Some, length};
+ghost use Rattle.std.specs.Prelude.{◌≡◌, ◌≤◌, Some, length, slice_get};
 ghost use Rattle.std.specs.List.{list_all};
 ghost use Rattle.src_model.specs.ValidTypes as spec;
 
@@ -270,6 +270,16 @@ pub fn is_declared_scalar(parts: &Parts, room: u32, number: TyId) -> bool
 }
 
 #[cycle(is_declared)]
+fn is_numbered_signature_declared(parts: &Parts, room: u32, number: u32) -> bool
+    ensures { result ≡ spec.signature_is_declared (spec.is_declared_scalar parts.now room) parts.now (slice_get parts.now.signatures number) }
+{
+    match parts.signatures.as_slice().get(number as usize) {
+        None => false,
+        Some(signature) => is_signature_declared(parts, room, signature),
+    }
+}
+
+#[cycle(is_declared)]
 fn is_declared(parts: &Parts, room: u32, ty: Option<Ty>) -> bool
     ensures { result ≡ spec.is_declared parts.now room ty }
 {
@@ -277,10 +287,7 @@ fn is_declared(parts: &Parts, room: u32, ty: Option<Ty>) -> bool
         return false;
     }
     match ty {
-        Some(Ty::Function(number)) => match parts.signatures.as_slice().get(number as usize) {
-            None => false,
-            Some(signature) => is_signature_declared(parts, room - 1, signature),
-        },
+        Some(Ty::Function(number)) => is_numbered_signature_declared(parts, room - 1, number),
         _ => is_starred(parts, GREATEST_STARS, ty),
     }
 }

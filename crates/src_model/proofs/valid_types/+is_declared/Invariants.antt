@@ -11,4 +11,7 @@ abbrev pub decreases-is_declared_scalar : goal.decreases-is_declared_scalar
 decreases-is_declared_scalar l = 200 * l.room + 1
 
 abbrev pub decreases-is_signature_declared : goal.decreases-is_signature_declared
-decreases-is_signature_declared l = 200 * l.room + 199
+decreases-is_signature_declared l = 200 * l.room + 198
+
+abbrev pub decreases-is_numbered_signature_declared : goal.decreases-is_numbered_signature_declared
+decreases-is_numbered_signature_declared l = 200 * l.room + 199

@@ -1,0 +1,159 @@
+// The locals that statements declare and the sites at which they allocate, in the order of the text.
+
+ghost use Rattle.std.specs.Prelude.{◌≡◌, [], ◌∷◌, Some, None, count_by, nat_eq};
+ghost use Rattle.src_model.specs.ValidNumbering as spec;
+
+use crate::program::{Function, Site};
+use crate::stmt::{Callee, Rhs, TypedStmt};
+
+/// What comes next in a function.
+#[derive(Clone, Copy, Debug, PartialEq, Eq)]
+pub struct Next {
+    /// The number of the next local.
+    pub local: u64,
+    /// The number of the next site among those of its function.
+    pub ordinal: u64,
+}
+
+/// The sites of a program, and the number of the function whose statements are read.
+pub struct Sites<'a> {
+    pub all: &'a [Site],
+    pub function: u32,
+}
+
+fn after_local(next: Option<Next>, number: u32) -> Option<Next>
+    ensures { (sites : _) (f : _) → result ≡ spec.after_marks sites f next (spec.local number ∷ []) }
+{
+    match next {
+        Some(next) if next.local == u64::from(number) => Some(Next {
+            local: u64::from(number) + 1,
+            ordinal: next.ordinal,
+        }),
+        _ => None,
+    }
+}
+
+fn is_site_of(sites: &Sites, ordinal: u64, number: u32) -> bool
+    ensures { result ≡ spec.is_site_of sites.now.all.now sites.now.function ordinal number }
+{
+    match sites.all.get(number as usize) {
+        None => false,
+        Some(site) => site.function == sites.function && u64::from(site.ordinal) == ordinal,
+    }
+}
+
+fn after_site(sites: &Sites, next: Option<Next>, number: u32) -> Option<Next>
+    ensures { result ≡ spec.after_marks sites.now.all.now sites.now.function next (spec.site number ∷ []) }
+{
+    match next {
+        None => None,
+        Some(next) => {
+            if !is_site_of(sites, next.ordinal, number) {
+                return None;
+            }
+            Some(Next {
+                local: next.local,
+                ordinal: next.ordinal + 1,
+            })
+        }
+    }
+}
+
+fn after_callee(sites: &Sites, next: Option<Next>, callee: &Callee) -> Option<Next>
+    ensures { result ≡ spec.after_marks sites.now.all.now sites.now.function next (spec.callee_marks callee.now) }
+{
+    match callee {
+        Callee::Malloc(number) | Callee::Calloc(number) => after_site(sites, next, *number),
+        _ => next,
+    }
+}
+
+fn after_right_side(sites: &Sites, next: Option<Next>, rhs: &Rhs) -> Option<Next>
+    ensures { result ≡ spec.after_marks sites.now.all.now sites.now.function next (spec.right_marks rhs.now) }
+{
+    match rhs {
+        Rhs::Value(_) => next,
+        Rhs::Call(call, _) => after_callee(sites, next, &call.callee),
+    }
+}
+
+fn after_optional(sites: &Sites, next: Option<Next>, rhs: &Option<Rhs>) -> Option<Next>
+    ensures { result ≡ spec.after_marks sites.now.all.now sites.now.function next (spec.optional_marks rhs.now) }
+{
+    match rhs {
+        None => next,
+        Some(rhs) => after_right_side(sites, next, rhs),
+    }
+}
+
+fn after_declaration(sites: &Sites, next: Option<Next>, number: u32, rhs: &Option<Rhs>) -> Option<Next>
+    ensures { result ≡ spec.after_marks sites.now.all.now sites.now.function next (spec.local number ∷ spec.optional_marks rhs.now) }
+{
+    after_optional(sites, after_local(next, number), rhs)
+}
+
+/// What comes next after the statement; none where it doesn't have the next numbers.
+#[cycle(after_statement)]
+fn after_statement(sites: &Sites, next: Option<Next>, statement: &TypedStmt) -> Option<Next>
+    ensures { result ≡ spec.after_marks sites.now.all.now sites.now.function next (spec.marks statement.now) }
+{
+    match statement {
+        TypedStmt::Block(body) => after_statements(sites, next, body.as_slice()),
+        TypedStmt::Declare(number, rhs) => after_declaration(sites, next, *number, rhs),
+        TypedStmt::SetLocal(_, rhs) | TypedStmt::Assign(_, rhs) => {
+            after_right_side(sites, next, rhs)
+        }
+        TypedStmt::Call(call) => after_callee(sites, next, &call.callee),
+        TypedStmt::If(_, then, otherwise) => {
+            let next = after_statement(sites, next, then.get());
+            after_statements(sites, next, otherwise.as_slice())
+        }
+        TypedStmt::While(_, body) => after_statement(sites, next, body.get()),
+        TypedStmt::For(first, _, step, body) => {
+            let next = after_statements(sites, next, first.as_slice());
+            let next = after_statements(sites, next, step.as_slice());
+            after_statement(sites, next, body.get())
+        }
+        TypedStmt::Return(rhs) => after_optional(sites, next, rhs),
+        TypedStmt::Empty | TypedStmt::Break | TypedStmt::Continue => next,
+    }
+}
+
+/// What comes next after the statements.
+#[cycle(after_statement)]
+fn after_statements(sites: &Sites, next: Option<Next>, statements: &[TypedStmt]) -> Option<Next>
+    ensures { result ≡ spec.after_marks sites.now.all.now sites.now.function next (spec.body_marks statements.now) }
+{
+    let mut after = next;
+    for statement in statements {
+        after = after_statement(sites, after, statement);
+    }
+    after
+}
+
+fn site_count(sites: &Sites) -> usize
+    ensures { result ≡ count_by (λ s. nat_eq s.function sites.now.function) sites.now.all.now }
+{
+    sites
+        .all
+        .iter()
+        .filter(|site| site.function == sites.function)
+        .count()
+}
+
+fn is_function_numbered(sites: &Sites, function: &Function) -> bool
+    ensures { result ≡ spec.is_function_numbered sites.now.all.now sites.now.function function.now }
+{
+    let params = function.params.as_slice().len();
+    let first = Next {
+        local: params as u64,
+        ordinal: 0,
+    };
+    match after_statements(sites, Some(first), function.body.as_slice()) {
+        None => false,
+        Some(next) => {
+            next.local == params as u64 + function.locals.as_slice().len() as u64
+                && site_count(sites) as u64 == next.ordinal
+        }
+    }
+}
