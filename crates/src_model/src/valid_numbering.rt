@@ -1,6 +1,6 @@
 // The locals that statements declare and the sites at which they allocate, in the order of the text.
 
-ghost use Rattle.std.specs.Prelude.{◌≡◌, [], ◌∷◌, Some, None, count_by, nat_eq};
+ghost use Rattle.std.specs.Prelude.{◌≡◌, ◌+◌, if◌then◌else◌, [], ◌∷◌, Some, None, count_by, nat_eq};
 ghost use Rattle.src_model.specs.ValidNumbering as spec;
 
 use crate::program::{Function, Site};
@@ -33,12 +33,36 @@ fn after_local(next: Option<Next>, number: u32) -> Option<Next>
     }
 }
 
-fn is_site_of(sites: &Sites, ordinal: u64, number: u32) -> bool
-    ensures { result ≡ spec.is_site_of sites.now.all.now sites.now.function ordinal number }
+fn successor(number: u32) -> u64
+    ensures { result ≡ number + 1 }
+{
+    u64::from(number) + 1
+}
+
+fn is_site(function: u32, ordinal: u64, site: &Site) -> bool
+    ensures { result ≡ spec.is_site function ordinal site.now }
+{
+    site.function == function && u64::from(site.ordinal) == ordinal
+}
+
+fn after_numbered(function: u32, next: Next, site: &Site) -> Option<Next>
+    ensures { result ≡ (if spec.is_site function next.ordinal site.now then Some (record { local = next.local; ordinal = next.ordinal + 1 }) else None) }
+{
+    if !is_site(function, next.ordinal, site) {
+        return None;
+    }
+    Some(Next {
+        local: next.local,
+        ordinal: successor(site.ordinal),
+    })
+}
+
+fn after_known(sites: &Sites, next: Next, number: u32) -> Option<Next>
+    ensures { result ≡ spec.after_mark sites.now.all.now sites.now.function next (spec.site number) }
 {
     match sites.all.get(number as usize) {
-        None => false,
-        Some(site) => site.function == sites.function && u64::from(site.ordinal) == ordinal,
+        None => None,
+        Some(site) => after_numbered(sites.function, next, site),
     }
 }
 
@@ -47,15 +71,7 @@ fn after_site(sites: &Sites, next: Option<Next>, number: u32) -> Option<Next>
 {
     match next {
         None => None,
-        Some(next) => {
-            if !is_site_of(sites, next.ordinal, number) {
-                return None;
-            }
-            Some(Next {
-                local: next.local,
-                ordinal: next.ordinal + 1,
-            })
-        }
+        Some(next) => after_known(sites, next, number),
     }
 }
 
@@ -94,6 +110,7 @@ fn after_declaration(sites: &Sites, next: Option<Next>, number: u32, rhs: &Optio
 
 /// What comes next after the statement; none where it doesn't have the next numbers.
 #[cycle(after_statement)]
+#[tactic(auto, using(crate::proofs::ValidMarks::mark_facts))]
 fn after_statement(sites: &Sites, next: Option<Next>, statement: &TypedStmt) -> Option<Next>
     ensures { result ≡ spec.after_marks sites.now.all.now sites.now.function next (spec.marks statement.now) }
 {
@@ -121,6 +138,7 @@ fn after_statement(sites: &Sites, next: Option<Next>, statement: &TypedStmt) -> 
 
 /// What comes next after the statements.
 #[cycle(after_statement)]
+#[tactic(auto, using(crate::proofs::ValidMarks::mark_facts))]
 fn after_statements(sites: &Sites, next: Option<Next>, statements: &[TypedStmt]) -> Option<Next>
     ensures { result ≡ spec.after_marks sites.now.all.now sites.now.function next (spec.body_marks statements.now) }
 {
