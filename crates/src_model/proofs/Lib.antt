@@ -1,3 +1,7 @@
+pub mod Wrapping
+pub mod ConstantLayers
+pub mod ConstantValues
+pub mod InitialLemmas
 mod IntegerExamples
 mod Sample
 mod RunExamples

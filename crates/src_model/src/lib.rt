@@ -4,11 +4,14 @@
 //! `Store` says which stores are a program's, and `ValueBytes` lays values out as bytes.
 #![tactic(auto)]
 
+pub mod constant;
 mod copy;
 mod copy_expr;
 mod copy_stmt;
 pub mod expr;
 pub mod first;
+mod initial;
+mod integers;
 pub mod program;
 pub mod stmt;
 #[cfg(test)]
@@ -21,3 +24,5 @@ mod valid_numbering;
 mod valid_stmt;
 mod valid_types;
 pub mod value;
+
+pub use initial::initial_store;
