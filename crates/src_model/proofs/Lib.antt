@@ -16,3 +16,4 @@ pub mod ValidBounds
 pub mod ValidRows
 pub mod ValidTypeFacts
 pub mod ValidMarks
+pub mod ValidItems

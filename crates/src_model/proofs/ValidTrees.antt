@@ -9,6 +9,7 @@ use Rattle.src_model.specs.declared.expr.ExprKind.{Load, AddressOf, Decay, Cast,
 use Rattle.src_model.specs.declared.expr.PlaceKind.{Deref, Arrow, Item, Element, Field, Member}
 use Rattle.src_model.specs.declared.expr.ExprKind.TheBlock as E
 use Rattle.src_model.specs.ValidTypes.{ty, is_int, points_to, is_field_of, is_member_of}
+use Rattle.src_model.specs.ValidInitialiser.{is_before, place_is_before}
 use Rattle.src_model.specs.ValidExpression.{Declarations, is_nought, is_outside, is_read_outside, is_expr, is_place, load_fits, address_fits, decay_fits, cast_fits, convert_fits, unary_fits, binary_fits, logical_fits, conditional_fits, item_fits, element_fits}
 
 pub outside-Element : (a : TypedPlace) (i : TypedExpr) → is_outside (Element a i) ≡ is_outside a.kind
@@ -26,6 +27,16 @@ outside-Field a k = refl
 pub outside-Member : (a : TypedPlace) (k : ℕ) → is_outside (Member a k) ≡ false
 unfolding E.shape-the_row-TypedExpr-1 E.hidden-the_row-TypedExpr-1 E.shape-the_row-TypedPlace-0 E.hidden-the_row-TypedPlace-0 denote.Hole.Carrier.hidden
 outside-Member a k = refl
+
+pub before-AddressOf : (g : ℕ) (e : TypedPlace) → is_before g (AddressOf e) ≡ place_is_before g e.kind
+unfolding E.shape-the_row-TypedExpr-1 E.hidden-the_row-TypedExpr-1 E.shape-the_row-TypedPlace-0 E.hidden-the_row-TypedPlace-0 denote.Hole.Carrier.hidden
+before-AddressOf g e = refl
+
+pub before-Decay : (g : ℕ) (e : TypedPlace) → is_before g (Decay e) ≡ place_is_before g e.kind
+unfolding E.shape-the_row-TypedExpr-1 E.hidden-the_row-TypedExpr-1 E.shape-the_row-TypedPlace-0 E.hidden-the_row-TypedPlace-0 denote.Hole.Carrier.hidden
+before-Decay g e = refl
+
+pub ruleset before_facts = (before-AddressOf, before-Decay)
 
 module _ (at : Declarations) (t : ℕ) where
   pub expr-Load : (e : TypedPlace) → is_expr at t (Load e) ≡ is_place at e.ty e.kind && load_fits at.program.types t e.ty

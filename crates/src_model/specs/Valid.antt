@@ -24,7 +24,7 @@ use Rattle.src_model.specs.ValidExpression.{Declarations}
 use Rattle.src_model.specs.ValidStatement.{are_statements}
 use Rattle.src_model.specs.ValidInitialiser.{is_start}
 use Rattle.src_model.specs.ValidNumbering.{is_numbered}
-use Rattle.src_model.specs.ValidNames.{are_names, differ, is_name, is_free, is_called, global_names}
+use Rattle.src_model.specs.ValidNames.{are_names, names_differ, is_name, is_free, is_called}
 
 -- the most structs, unions, fields of one, globals, functions and sites
 abbrev pub greatest_count : ℕ
@@ -69,8 +69,22 @@ is_void_pointer _ = false
 abbrev pub has_kind : Parts → IntKind → Bool
 has_kind p kind = list_any (is_of_kind kind) p.types
 
-abbrev pub kinds : List IntKind
-kinds = K.Char ∷ K.UChar ∷ K.Short ∷ K.UShort ∷ K.Int ∷ K.UInt ∷ K.LongLong ∷ K.ULongLong ∷ []
+-- all integer types
+abbrev pub has_kinds : Parts → Bool
+has_kinds p =
+    has_kind p K.Char
+    && (has_kind p K.UChar
+    && (has_kind p K.Short
+    && (has_kind p K.UShort && (has_kind p K.Int && (has_kind p K.UInt && (has_kind p K.LongLong && has_kind p K.ULongLong))))))
+
+abbrev pub has_struct : Parts → ℕ → Bool
+has_struct p s = list_any (is_struct s) p.types
+
+abbrev pub has_union : Parts → ℕ → Bool
+has_union p u = list_any (is_union u) p.types
+
+abbrev pub has_function_pointer : Parts → ℕ → Bool
+has_function_pointer p g = list_any (is_pointer_to_function g) p.types
 
 -- the test passes for each number from k on, one for each entry
 abbrev pub all_from : {A : Type 0} → (ℕ → Bool) → ℕ → List A → Bool
@@ -89,10 +103,10 @@ is_no_array_pointer p _ = true
 -- type of at most nine stars over one of these; no pointer to an array
 abbrev pub has_types : Parts → Bool
 has_types p =
-    list_all (has_kind p) kinds
-    && (all_from (λ s. list_any (is_struct s) p.types) 0 p.structs
-    && (all_from (λ u. list_any (is_union u) p.types) 0 p.unions
-    && (all_from (λ g. list_any (is_pointer_to_function g) p.types) 0 p.signatures
+    has_kinds p
+    && (all_from (has_struct p) 0 p.structs
+    && (all_from (has_union p) 0 p.unions
+    && (all_from (has_function_pointer p) 0 p.signatures
     && (list_any is_void_pointer p.types
     && (all_from (has_pointer p) 0 p.types && list_all (is_no_array_pointer p) p.types)))))
 
@@ -209,7 +223,7 @@ is_valid p =
     && (has_types p.types
     && (are_tags p
     && (list_all (is_signature p.types) p.types.signatures
-    && (differ (global_names p)
+    && (names_differ p.globals p.functions
     && (has_messages p p.globals
     && (are_globals p 0 p.globals
     && (nat_le (globals_size p) greatest

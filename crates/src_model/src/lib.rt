@@ -19,6 +19,7 @@ mod tests;
 mod valid_depth;
 mod valid_expr;
 mod valid_fits;
+mod valid_init;
 mod valid_names;
 mod valid_numbering;
 mod valid_stmt;

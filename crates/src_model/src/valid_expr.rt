@@ -19,6 +19,7 @@ use crate::valid_types::{
 use c_types::{Signature, Ty, TyId};
 
 /// What an expression may name: of a function the types of its parameters and of its locals.
+#[derive(Clone, Copy)]
 pub struct Declarations<'a> {
     pub program: &'a Program,
     pub params: &'a [TyId],

@@ -16,6 +16,7 @@ pub struct Next {
 }
 
 /// The sites of a program, and the number of the function whose statements are read.
+#[derive(Clone, Copy)]
 pub struct Sites<'a> {
     pub all: &'a [Site],
     pub function: u32,
