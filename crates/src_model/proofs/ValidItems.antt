@@ -40,8 +40,13 @@ module _ (p : Program) (g room t : ℕ) where
       ∙ ap (λ b. is_item p g room t k x && b) (listed-more xs (k + 1) i d (omega arith) ∙ ap (λ j. are_listed p g room t (k + 1) (take i xs) && is_item p g room t j (get_or xs i d)) m)
       ∙ sym (and-and (is_item p g room t k x) (are_listed p g room t (k + 1) (take i xs)) (is_item p g room t (k + suc i) (get_or xs i d)))
 
+pub listed-next : (p : Program) (g room t : ℕ) (xs : List Init) (i : ℕ) (d : Init) → i < length xs → are_listed p g room t 0 (take (i + 1) xs) ≡ are_listed p g room t 0 (take i xs) && is_item p g room t i (get_or xs i d)
+listed-next p g room t xs i d h =
+    let n : 0 + i ≡ i = omega arith in
+    listed-more p g room t xs 0 i d h ∙ ap (λ j. are_listed p g room t 0 (take i xs) && is_item p g room t j (get_or xs i d)) n
+
 pub initialiser-List : (p : Program) (g room t : ℕ) (xs : List Init) → is_initialiser p g room t (Listed xs) ≡ nat_lt 0 room && (is_no_empty_list xs && are_listed p g (room - 1) t 0 xs)
 unfolding B.shape-the_row-Init-0 B.hidden-the_row-Init-0 denote.Hole.Carrier.hidden
 initialiser-List p g room t xs = both refl (both (row-not_empty xs) (row-list p g (room - 1) t 0 xs))
 
-pub ruleset item_facts = listed-more
+pub ruleset item_facts = listed-next

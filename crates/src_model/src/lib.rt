@@ -16,6 +16,7 @@ pub mod program;
 pub mod stmt;
 #[cfg(test)]
 mod tests;
+mod valid;
 mod valid_depth;
 mod valid_expr;
 mod valid_fits;
@@ -23,6 +24,7 @@ mod valid_init;
 mod valid_names;
 mod valid_numbering;
 mod valid_stmt;
+mod valid_table;
 mod valid_types;
 pub mod value;
 

@@ -1,6 +1,7 @@
 // The locals that statements declare and the sites at which they allocate, in the order of the text.
 
-ghost use Rattle.std.specs.Prelude.{◌≡◌, ◌+◌, if◌then◌else◌, [], ◌∷◌, Some, None, count_by, nat_eq};
+ghost use Rattle.std.specs.Prelude.{◌≡◌, ◌+◌, if◌then◌else◌, [], ◌∷◌, Some, None, count_by, nat_eq, nat_lt, length, ◌≤◌};
+ghost use Rattle.std.specs.List.{list_all};
 ghost use Rattle.src_model.specs.ValidNumbering as spec;
 
 use crate::program::{Function, Site};
@@ -175,4 +176,60 @@ fn is_function_numbered(sites: &Sites, function: &Function) -> bool
                 && site_count(sites) as u64 == next.ordinal
         }
     }
+}
+
+fn are_functions_numbered(sites: &[Site], first: u32, functions: &[Function]) -> bool
+    requires { first + length functions.now ≤ 4096 }
+    ensures { result ≡ spec.are_functions_numbered sites.now first functions.now }
+{
+    match functions.split_first() {
+        None => true,
+        Some((function, rest)) => {
+            let own = Sites {
+                all: sites,
+                function: first,
+            };
+            is_function_numbered(&own, function) && are_functions_numbered(sites, first + 1, rest)
+        }
+    }
+}
+
+fn follows(before: Option<Site>, site: Site) -> bool
+    ensures { result ≡ spec.follows before site }
+{
+    match before {
+        None => site.ordinal == 0,
+        Some(before) => {
+            site.ordinal == 0
+                || site.function == before.function
+                    && u64::from(site.ordinal) == successor(before.ordinal)
+        }
+    }
+}
+
+fn are_in_order(before: Option<Site>, sites: &[Site]) -> bool
+    ensures { result ≡ spec.are_in_order before sites.now }
+{
+    match sites.split_first() {
+        None => true,
+        Some((site, rest)) => follows(before, *site) && are_in_order(Some(*site), rest),
+    }
+}
+
+fn have_functions(sites: &[Site], functions: &[Function]) -> bool
+    ensures { result ≡ list_all (λ s. nat_lt s.function (length functions.now)) sites.now }
+{
+    sites
+        .iter()
+        .all(|site| (site.function as usize) < functions.len())
+}
+
+/// Whether each local is declared once, and each site stands in one place of the text.
+pub fn is_numbered(sites: &[Site], functions: &[Function]) -> bool
+    requires { length functions.now ≤ 4096 }
+    ensures { result ≡ spec.is_numbered sites.now functions.now }
+{
+    are_in_order(None, sites)
+        && have_functions(sites, functions)
+        && are_functions_numbered(sites, 0, functions)
 }
