@@ -1,5 +1,5 @@
 -- The rules of constants at each constructor as code sees it.
-use Rattle.std.proofs.Common.{◌≡◌, ◌∙◌, refl, sym, ap, subst, ℕ, ℤ, Bool, true, false, ◌&&◌, Option, Some, Ok}
+use Rattle.std.proofs.Common.{◌≡◌, ◌∙◌, refl, sym, ap, subst, ℕ, ℤ, Bool, true, ◌&&◌, Some}
 use Rattle.lu_spec.specs.Then.{then_do}
 use Rattle.c_types.specs.declared.parts.Parts.{Parts}
 use Rattle.c_types.specs.declared.parts.IntKind.{IntKind}
@@ -13,7 +13,7 @@ use Rattle.src_model.specs.declared.expr.ExprKind.TheBlock as E
 use Rattle.src_model.specs.Objects.{Gives}
 use Rattle.src_model.specs.Operators.{converted, is_true, flagged, unary, binary}
 use Rattle.src_model.specs.Expression.{Scope, value_of, logical, chosen}
-use Rattle.src_model.specs.Constant.{kind_at, is_integer, takes_integers, is_integer_constant, is_null_constant, is_pointer, is_zero_literal, int_value}
+use Rattle.src_model.specs.Constant.{kind_at, is_integer, takes_integers, is_integer_constant, int_value}
 use Rattle.src_model.proofs.LayoutLengths.{and_left, and_right}
 
 abbrev is_constant_at : Parts → TypedExpr → Bool

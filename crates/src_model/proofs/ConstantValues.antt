@@ -1,5 +1,5 @@
 -- The values of constants that aren't integers.
-use Rattle.std.proofs.Common.{◌≡◌, ◌∙◌, refl, sym, ap, subst, ℕ, zero, suc, ℤ, pos, negsuc, Bool, true, false, ◌&&◌, ◌||◌, if◌then◌else◌, Option, Some, None, Ok, Err, slice_get}
+use Rattle.std.proofs.Common.{◌≡◌, ◌∙◌, refl, sym, ap, ℕ, zero, suc, ℤ, pos, negsuc, Bool, true, false, ◌&&◌, ◌||◌, if◌then◌else◌, Option, Some, None, Ok, Err, slice_get}
 use Rattle.lu_base.specs.declared.trap.Trap.TheVariants.{BadCode}
 use Rattle.c_types.specs.declared.parts.Parts.{Parts}
 use Rattle.c_types.specs.declared.parts.Ty.{Ty}
@@ -12,9 +12,9 @@ use Rattle.src_model.specs.declared.expr.ExprKind.TheBlock as E
 use Rattle.src_model.specs.declared.expr.PlaceKind.{PlaceKind, Global, Deref', Arrow', Item', Element', Field', Member'}
 use Rattle.src_model.specs.declared.program.Program.{Program}
 use Rattle.src_model.specs.Integers.{is_zero}
-use Rattle.src_model.specs.Operators.{converted_to, converted}
+use Rattle.src_model.specs.Operators.{converted_to}
 use Rattle.src_model.specs.Expression.{Scope, value_of}
-use Rattle.src_model.specs.Constant.{kind_at, is_int_kind, is_integer_constant, is_zero_literal, is_zero_row, is_pointer_in, is_pointer, is_null_constant, is_address_constant, is_constant, constant_value, if_ok}
+use Rattle.src_model.specs.Constant.{kind_at, is_int_kind, is_integer_constant, is_zero_literal, is_pointer_in, is_pointer, is_null_constant, is_address_constant, constant_value, if_ok}
 use Rattle.src_model.specs.Initial.{initial_scope, start_in, start_of}
 use Rattle.src_model.proofs.LayoutLengths.{and_left, and_right}
 

@@ -7,6 +7,8 @@ mod Sample
 mod RunExamples
 mod TrapExamples
 mod ByteExamples
+mod BudgetExamples
+mod AssignmentExamples
 pub mod Fuel
 pub mod LayoutLengths
 pub mod PartBytes

@@ -1,6 +1,6 @@
 -- To wrap a number to 128 bits first changes no residue.
-use Rattle.std.proofs.Common.{◌≡◌, ◌∙◌, refl, sym, ap, ℕ, zero, suc, ◌/◌, ◌+◌, ◌-◌, ◌*◌, ◌%◌, ◌^◌, ◌<◌, ◌≤◌, ◌⊎◌, inl, inr, Bool, true, false, if◌then◌else◌, Ok, Err, arith, lit<}
-use Rattle.std.specs.Prelude.{ℤ, pos, negsuc, ◌+ℤ◌, ◌-ℤ◌, ◌*ℤ◌, neg_ℤ, int_div, int_rem, nat_lt}
+use Rattle.std.proofs.Common.{◌≡◌, ◌∙◌, refl, sym, ap, ℕ, zero, suc, ◌/◌, ◌-◌, ◌*◌, ◌%◌, ◌^◌, ◌<◌, ◌≤◌, Bool, true, false, if◌then◌else◌, Ok, Err, arith, lit<}
+use Rattle.std.specs.Prelude.{ℤ, pos, negsuc, ◌+ℤ◌, neg_ℤ, int_div, int_rem, nat_lt}
 use Rattle.std.specs.Int.{w128, cast_signed, cast_unsigned, int_rem_euclid, int_wrap, int_wrapping_div}
 use Rattle.std.specs.Int.RustNames.{unsigned_abs, FitsSigned}
 use Rattle.std.proofs.Math.Nat.{mod-mod_of_dvd, mul_assoc, mod-lt, mul-mod_left, mod-eq_of_lt, div-le_self}
@@ -9,7 +9,7 @@ use Rattle.std.proofs.lemmas.Nat.Gcd.{dvd_of_mod-eq-zero}
 use Rattle.lu_base.specs.declared.trap.Trap.TheVariants.{DivZero}
 use Rattle.c_types.specs.declared.parts.IntKind.{IntKind}
 use Rattle.c_types.specs.declared.parts.IntKind.TheVariants.{Char, UChar, Short, UShort, Int as Int_kind, UInt, LongLong, ULongLong}
-use Rattle.src_model.specs.Integers.{bits_of, residue, from_bits, wrapped, is_zero, quotient, remainder}
+use Rattle.src_model.specs.Integers.{residue, from_bits, wrapped, is_zero, quotient, remainder}
 
 abbrev high : ℕ
 high = 2 ^ 128

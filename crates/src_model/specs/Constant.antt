@@ -1,5 +1,5 @@
 -- Expressions whose value the text alone decides: constants of integers, null, and addresses of globals and functions.
-use Rattle.std.specs.Prelude.{ℕ, Bool, true, false, ◌&&◌, ◌||◌, if◌then◌else◌, is_some, ℤ, pos, Option, Some, None, Result, Ok, Err, slice_get}
+use Rattle.std.specs.Prelude.{ℕ, Bool, true, false, ◌&&◌, ◌||◌, if◌then◌else◌, is_some, ℤ, Option, Some, None, Ok, Err, slice_get}
 use Rattle.lu_spec.specs.Then.{then_do}
 use Rattle.lu_base.specs.declared.trap.Trap.TheVariants.{BadCode}
 use Rattle.c_types.specs.declared.parts.Parts.{Parts}

@@ -10,7 +10,9 @@ ghost use Rattle.src_model.specs.Expression.{is_array, logical, chosen, value_of
 ghost use Rattle.src_model.specs.Constant.{kind_at, is_integer, takes_integers, is_integer_constant, is_zero_literal, is_pointer, is_null_constant, constant_value, evaluated, int_value, if_ok};
 ghost use Rattle.src_model.specs.Initial.{global_count, initial_scope, start_of};
 
-use crate::expr::{BinaryOperator, ExprKind, LogicalOperator, PlaceKind, TypedExpr, TypedPlace, UnaryOperator};
+use crate::expr::{
+    BinaryOperator, ExprKind, LogicalOperator, PlaceKind, TypedExpr, TypedPlace, UnaryOperator,
+};
 use crate::integers;
 use crate::program::Program;
 use c_types::{IntKind, Ty, TyId};
@@ -135,11 +137,7 @@ fn converted(kind: IntKind, z: Result<i128, Trap>) -> Result<i128, Trap>
     }
 }
 
-fn on_one(
-    kind: IntKind,
-    operator: UnaryOperator,
-    z: Result<i128, Trap>,
-) -> Result<i128, Trap>
+fn on_one(kind: IntKind, operator: UnaryOperator, z: Result<i128, Trap>) -> Result<i128, Trap>
     ensures { (p : Parts) (t : ℕ) → kind_at p t ≡ Some kind
         → then_do (int_value z) (unary p t operator) ≡ int_value result }
 {
@@ -199,11 +197,7 @@ fn logical(
     }
 }
 
-fn chosen(
-    c: Result<bool, Trap>,
-    a: Result<i128, Trap>,
-    b: Result<i128, Trap>,
-) -> Result<i128, Trap>
+fn chosen(c: Result<bool, Trap>, a: Result<i128, Trap>, b: Result<i128, Trap>) -> Result<i128, Trap>
     ensures { chosen c (int_value a) (int_value b) ≡ int_value result }
 {
     match c {

@@ -1,6 +1,7 @@
 // The store at the start.
 
-ghost use Rattle.std.specs.Prelude.{◌≡◌, ◌++◌, map, drop, length, IfOk, slice_get};
+ghost use Rattle.std.specs.Prelude.{◌≡◌, ◌++◌, ◌<◌, map, drop, length, IfOk, IfSome, slice_get};
+ghost use Rattle.c_types.specs.Recursion.{depth};
 ghost use Rattle.src_model.specs.declared.value.Value.{out-Value};
 ghost use Rattle.src_model.specs.declared.value.Value as V;
 ghost use Rattle.src_model.specs.Paths.{zero_of};
@@ -11,27 +12,15 @@ use crate::constant::{Constant, evaluate};
 use crate::integers::wrap;
 use crate::program::{Global as GlobalVariable, Init, Program};
 use crate::value::{Object, ObjectKind, Store, Value};
-use c_types::{Ty, TyId, TypeTable};
+use c_types::{Parts, Ty, TyId, TypeTable};
 use lu_base::Memory;
 use sqlite_items::{Boxed, Items};
 use std::alloc::Global;
 
-/// How many elements an array has, or fields a struct; 0 for any other type.
-fn item_count(types: &TypeTable, number: TyId) -> usize
-    ensures { result ≡ length (item_types types.now number) }
+fn item_type_in(parts: &Parts, number: TyId, index: usize) -> Option<TyId>
+    ensures { result ≡ slice_get (item_types parts.now number) index }
 {
-    match types.parts().find_type(number) {
-        Some(Ty::Array(_, count)) => count as usize,
-        Some(Ty::Struct(tag)) => types.parts().fields_of(tag).len(),
-        _ => 0,
-    }
-}
-
-/// The type of an element of an array, or of a field of a struct.
-fn item_type(types: &TypeTable, number: TyId, index: usize) -> Option<TyId>
-    ensures { result ≡ slice_get (item_types types.now number) index }
-{
-    match types.parts().find_type(number) {
+    match parts.find_type(number) {
         Some(Ty::Array(elem, count)) => {
             if index < count as usize {
                 Some(elem)
@@ -39,12 +28,20 @@ fn item_type(types: &TypeTable, number: TyId, index: usize) -> Option<TyId>
                 None
             }
         }
-        Some(Ty::Struct(tag)) => match types.parts().fields_of(tag).get(index) {
+        Some(Ty::Struct(tag)) => match parts.fields_of(tag).get(index) {
             None => None,
             Some(field) => Some(field.ty),
         },
         _ => None,
     }
+}
+
+/// The type of an element of an array, or of a field of a struct. None where there is no such item.
+fn item_type(types: &TypeTable, number: TyId, index: usize) -> Option<TyId>
+    ensures value { result ≡ slice_get (item_types types.now number) index }
+    ensures falls { IfSome result (λ ty. depth types.now ty < depth types.now number) }
+{
+    item_type_in(types.parts(), number, index)
 }
 
 /// The zero value of a type.
@@ -86,10 +83,8 @@ fn with_zeros(
         ≡ first ++ map (zero_of types.now) (drop (length first) (item_types types.now number))) }
 {
     let mut items = first;
-    for index in items.len()..item_count(types, number) {
-        if let Some(ty) = item_type(types, number, index) {
-            items.push(zero_value(alloc, types, ty)?)?;
-        }
+    while let Some(ty) = item_type(types, number, items.len()) {
+        items.push(zero_value(alloc, types, ty)?)?;
     }
     Ok(items)
 }
@@ -202,11 +197,7 @@ fn items_of(alloc: Global, value: Value) -> Items<Value>
 }
 
 /// A global with its initialiser's value.
-fn initial_object(
-    alloc: Global,
-    p: &Program,
-    global: &GlobalVariable,
-) -> Result<Object, Memory>
+fn initial_object(alloc: Global, p: &Program, global: &GlobalVariable) -> Result<Object, Memory>
     ensures { IfOk result (λ object. object ≡ initial_object p.now global.now) }
 {
     let value = initial_value(alloc, p, global.ty, &global.init)?;
