@@ -226,7 +226,7 @@ has_handlers p =
 
 abbrev pub has_few_entries : Program → Bool
 has_few_entries p =
-    is_few p.types.structs && (is_few p.types.unions && (is_few p.globals && (is_few p.functions && is_few p.sites)))
+    is_few p.types.structs && (is_few p.types.unions && is_few p.sites)
 
 abbrev pub are_tags : Program → Bool
 are_tags p = list_all (is_tag p) p.types.structs && list_all (is_tag p) p.types.unions
@@ -236,15 +236,17 @@ has_valid_types p =
     has_types p.types && (are_tags p && list_all (is_signature p.types) p.types.signatures)
 
 abbrev pub has_valid_globals : Program → Bool
-has_valid_globals p = has_messages p p.globals && (are_globals p 0 p.globals && are_within p greatest p.globals)
+has_valid_globals p =
+    is_few p.globals && (has_messages p p.globals && (are_globals p 0 p.globals && are_within p greatest p.globals))
 
 abbrev pub is_object_site : Program → Site → Bool
 is_object_site p s = is_named p.types s.elem
 
 abbrev pub has_valid_functions : Program → Bool
 has_valid_functions p =
-    list_all (is_function p) p.functions
-    && (has_handlers p && (list_all (is_object_site p) p.sites && is_numbered p.sites p.functions))
+    is_few p.functions
+    && (list_all (is_function p) p.functions
+    && (has_handlers p && (list_all (is_object_site p) p.sites && is_numbered p.sites p.functions)))
 
 -- all but that the types are those of a table
 abbrev pub is_valid : Program → Bool

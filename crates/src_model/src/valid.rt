@@ -80,10 +80,16 @@ fn are_signatures(p: &Program) -> bool
         .all(|signature| is_signature(p, signature))
 }
 
+fn holds_types(p: &Program) -> bool
+    ensures { result ≡ spec.has_types p.now.types }
+{
+    has_types(p.types.parts())
+}
+
 fn has_valid_types(p: &Program) -> bool
     ensures { result ≡ spec.has_valid_types p.now }
 {
-    has_types(p.types.parts()) && are_tags(p) && are_signatures(p)
+    holds_types(p) && are_tags(p) && are_signatures(p)
 }
 
 fn is_int_named(p: &Program, word: &[u8], field: &FieldDef) -> bool
@@ -189,10 +195,12 @@ fn are_within(p: &Program, room: u32, globals: &[Global]) -> bool
 }
 
 fn has_valid_globals(p: &Program) -> bool
-    requires { length p.now.globals ≤ 4096 }
     ensures { result ≡ spec.has_valid_globals p.now }
 {
     let globals = p.globals.as_slice();
+    if globals.len() > GREATEST_COUNT {
+        return false;
+    }
     has_messages(p, globals) && are_globals(p, 0, globals) && are_within(p, GREATEST, globals)
 }
 
@@ -283,10 +291,12 @@ fn are_functions(p: &Program) -> bool
 }
 
 fn has_valid_functions(p: &Program) -> bool
-    requires { length p.now.functions ≤ 4096 }
     ensures { result ≡ spec.has_valid_functions p.now }
 {
     let functions = p.functions.as_slice();
+    if functions.len() > GREATEST_COUNT {
+        return false;
+    }
     are_functions(p)
         && has_handlers(p)
         && are_object_sites(p)
@@ -299,8 +309,6 @@ fn has_few_entries(p: &Program) -> bool
     let parts = p.types.parts();
     parts.structs.as_slice().len() <= GREATEST_COUNT
         && parts.unions.as_slice().len() <= GREATEST_COUNT
-        && p.globals.as_slice().len() <= GREATEST_COUNT
-        && p.functions.as_slice().len() <= GREATEST_COUNT
         && p.sites.as_slice().len() <= GREATEST_COUNT
 }
 
