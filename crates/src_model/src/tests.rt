@@ -1,7 +1,9 @@
 use crate::expr::{ExprKind, TypedExpr};
 use crate::program::{Function, Global as GlobalVariable, Init, Program, Site};
 use crate::stmt::{Rhs, TypedStmt};
-use c_types::{FieldDef, IntKind, Parts, Sequence, Signature, TagDef, Ty, TypeTable, well_numbered};
+use c_types::{
+    FieldDef, IntKind, Parts, Sequence, Signature, TagDef, Ty, TypeTable, well_numbered,
+};
 use lu_base::{Bytes8, Name};
 use sqlite_items::Items;
 use std::alloc::Global;
@@ -71,9 +73,19 @@ fn a_program_is_copied(rt: HostRuntime) -> Result<(), Fail> {
 // pointers of at most nine stars over these and over void.
 fn types_of_messages(alloc: Global) -> Result<TypeTable, Fail> {
     let mut types = vec![in alloc;
-        Ty::Int(IntKind::Int), Ty::Int(IntKind::Char), Ty::Int(IntKind::UChar), Ty::Int(IntKind::Short),
-        Ty::Int(IntKind::UShort), Ty::Int(IntKind::UInt), Ty::Int(IntKind::LongLong),
-        Ty::Int(IntKind::ULongLong), Ty::Struct(0), Ty::Function(0), Ty::VoidPointer, Ty::Array(0, 6)]?;
+        Ty::Int(IntKind::Int),
+        Ty::Int(IntKind::Char),
+        Ty::Int(IntKind::UChar),
+        Ty::Int(IntKind::Short),
+        Ty::Int(IntKind::UShort),
+        Ty::Int(IntKind::UInt),
+        Ty::Int(IntKind::LongLong),
+        Ty::Int(IntKind::ULongLong),
+        Ty::Struct(0),
+        Ty::Function(0),
+        Ty::VoidPointer,
+        Ty::Array(0, 6),
+    ]?;
     for base in 0..11u32 {
         let mut to = base;
         for _ in 0..if base == 10 { 8 } else { 9 } {
@@ -82,7 +94,10 @@ fn types_of_messages(alloc: Global) -> Result<TypeTable, Fail> {
         }
     }
     let fields = vec![in alloc;
-        FieldDef { name: 3, ty: 0 }, FieldDef { name: 4, ty: 0 }, FieldDef { name: 5, ty: 11 }]?;
+        FieldDef { name: 3, ty: 0 },
+        FieldDef { name: 4, ty: 0 },
+        FieldDef { name: 5, ty: 11 },
+    ]?;
     let message = TagDef {
         tag: 2,
         fields: Sequence::from_vec(fields),
@@ -116,7 +131,9 @@ fn handler(alloc: Global, name: u32, body: Items<TypedStmt>) -> Function {
 // `m_in`, `m_out`, an empty `init`, and an `on_message` with this statement and this name's spelling.
 fn with_statement(alloc: Global, word: &[u8], statement: TypedStmt) -> Result<Program, Fail> {
     let mut names = Items::new(alloc);
-    let words: [&[u8]; 7] = [b"m_in", b"m_out", b"message", b"source", b"type", b"arg", b"init"];
+    let words: [&[u8]; 7] = [
+        b"m_in", b"m_out", b"message", b"source", b"type", b"arg", b"init",
+    ];
     for known in words {
         names.push(Name::from_ascii(alloc, known)?)?;
     }

@@ -26,7 +26,9 @@ const GREATEST_COUNT: usize = 4096;
 const GREATEST_LOCALS: usize = 256;
 /// 65 less the constructs that are open: at a field or a global, at a parameter, and at a statement of a body.
 const TOP: u32 = 65;
+
 const PARAM_ROOM: u32 = 64;
+
 const BODY_ROOM: u32 = 63;
 
 fn is_field(p: &Program, field: &FieldDef) -> bool
@@ -59,8 +61,7 @@ fn are_tags(p: &Program) -> bool
     ensures { result ≡ spec.are_tags p.now }
 {
     let parts = p.types.parts();
-    are_declared_tags(p, parts.structs.as_slice())
-        && are_declared_tags(p, parts.unions.as_slice())
+    are_declared_tags(p, parts.structs.as_slice()) && are_declared_tags(p, parts.unions.as_slice())
 }
 
 fn is_signature(p: &Program, signature: &Signature) -> bool
@@ -231,7 +232,13 @@ fn is_body(p: &Program, function: &Function) -> bool
         params: function.params.as_slice(),
         locals: function.locals.as_slice(),
     };
-    are_statements(&at, function.ret, false, BODY_ROOM, function.body.as_slice())
+    are_statements(
+        &at,
+        function.ret,
+        false,
+        BODY_ROOM,
+        function.body.as_slice(),
+    )
 }
 
 fn is_function(p: &Program, function: &Function) -> bool
@@ -278,7 +285,10 @@ fn is_object_site(p: &Program, site: &Site) -> bool
 fn are_object_sites(p: &Program) -> bool
     ensures { result ≡ list_all (spec.is_object_site p.now) p.now.sites }
 {
-    p.sites.as_slice().iter().all(|site| is_object_site(p, site))
+    p.sites
+        .as_slice()
+        .iter()
+        .all(|site| is_object_site(p, site))
 }
 
 fn are_functions(p: &Program) -> bool

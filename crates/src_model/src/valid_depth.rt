@@ -9,8 +9,11 @@ use crate::expr::{BinaryOperator, ExprKind, LogicalOperator, PlaceKind, TypedExp
 const GREATEST_CHAIN: u32 = 64;
 /// The ranks of a postfix, a unary, the condition of a `?:`, and a whole expression.
 pub const POSTFIX: u32 = 0;
+
 pub const UNARY: u32 = 1;
+
 const CONDITION: u32 = 11;
+
 const WHOLE: u32 = 12;
 
 /// Where an expression stands.

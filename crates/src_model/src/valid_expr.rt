@@ -10,11 +10,12 @@ ghost use Rattle.src_model.specs.ValidSeen.{seen};
 use crate::expr::{ExprKind, PlaceKind, TypedExpr, TypedPlace};
 use crate::program::{Function, Program};
 use crate::valid_fits::{
-    address_fits, binary_fits, cast_fits, conditional_fits, decay_fits, element_fits, is_number, item_fits, load_fits, logical_fits, type_of, unary_fits,
+    address_fits, binary_fits, cast_fits, conditional_fits, decay_fits, element_fits, is_number,
+    item_fits, load_fits, logical_fits, type_of, unary_fits,
 };
 use crate::valid_types::{
-    converts, is_array, is_field_of, is_int, is_member_of, is_named, is_pointer, is_scalar, is_unsigned_int,
-    points_to,
+    converts, is_array, is_field_of, is_int, is_member_of, is_named, is_pointer, is_scalar,
+    is_unsigned_int, points_to,
 };
 use c_types::{Signature, Ty, TyId};
 
@@ -81,7 +82,13 @@ fn is_function(p: &Program, signature: u32, function: u32) -> bool
 {
     match p.functions.as_slice().get(function as usize) {
         None => false,
-        Some(function) => match p.types.parts().signatures.as_slice().get(signature as usize) {
+        Some(function) => match p
+            .types
+            .parts()
+            .signatures
+            .as_slice()
+            .get(signature as usize)
+        {
             None => false,
             Some(signature) => has_signature(function, signature),
         },
@@ -206,11 +213,21 @@ pub fn is_place(at: &Declarations, place: &TypedPlace) -> bool
         }
         PlaceKind::Field(whole, number) => {
             is_place(at, whole.get())
-                && is_field_of(p.types.parts(), type_of(p, whole.get().ty), *number, place.ty)
+                && is_field_of(
+                    p.types.parts(),
+                    type_of(p, whole.get().ty),
+                    *number,
+                    place.ty,
+                )
         }
         PlaceKind::Member(whole, number) => {
             is_place(at, whole.get())
-                && is_member_of(p.types.parts(), type_of(p, whole.get().ty), *number, place.ty)
+                && is_member_of(
+                    p.types.parts(),
+                    type_of(p, whole.get().ty),
+                    *number,
+                    place.ty,
+                )
         }
     }
 }

@@ -7,8 +7,8 @@ ghost use Rattle.src_model.specs.ValidExpression as spec;
 use crate::expr::{BinaryOperator, UnaryOperator};
 use crate::program::Program;
 use crate::valid_types::{
-    casts, is_array, is_array_of, is_comparable, is_decayed, is_int, is_long_long,
-    is_object_pointer, is_ordered, is_promoted, is_named, is_scalar, points_to,
+    casts, is_array, is_array_of, is_comparable, is_decayed, is_int, is_long_long, is_named,
+    is_object_pointer, is_ordered, is_promoted, is_scalar, points_to,
 };
 use c_types::{IntKind, Ty, TyId};
 

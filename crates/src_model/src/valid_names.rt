@@ -200,14 +200,14 @@ fn is_no_function(functions: &[Function], global: &Global) -> bool
 fn are_no_functions(functions: &[Function], globals: &[Global]) -> bool
     ensures { result ≡ list_all (spec.is_no_function functions.now) globals.now }
 {
-    globals.iter().all(|global| is_no_function(functions, global))
+    globals
+        .iter()
+        .all(|global| is_no_function(functions, global))
 }
 
 /// Whether no two of these have one name.
 pub fn names_differ(globals: &[Global], functions: &[Function]) -> bool
     ensures { result ≡ spec.names_differ globals.now functions.now }
 {
-    globals_differ(globals)
-        && functions_differ(functions)
-        && are_no_functions(functions, globals)
+    globals_differ(globals) && functions_differ(functions) && are_no_functions(functions, globals)
 }

@@ -104,7 +104,12 @@ fn after_optional(sites: &Sites, next: Option<Next>, rhs: &Option<Rhs>) -> Optio
     }
 }
 
-fn after_declaration(sites: &Sites, next: Option<Next>, number: u32, rhs: &Option<Rhs>) -> Option<Next>
+fn after_declaration(
+    sites: &Sites,
+    next: Option<Next>,
+    number: u32,
+    rhs: &Option<Rhs>,
+) -> Option<Next>
     ensures { result ≡ spec.after_marks sites.now.all.now sites.now.function next (spec.local number ∷ spec.optional_marks rhs.now) }
 {
     after_optional(sites, after_local(next, number), rhs)

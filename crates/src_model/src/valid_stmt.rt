@@ -88,17 +88,19 @@ fn is_pointer_argument(at: &Declarations, room: u32, es: &[TypedExpr]) -> bool
     }
 }
 
-fn are_pointer_arguments(
-    at: &Declarations,
-    room: u32,
-    ty: Option<Ty>,
-    es: &[TypedExpr],
-) -> bool
+fn are_pointer_arguments(at: &Declarations, room: u32, ty: Option<Ty>, es: &[TypedExpr]) -> bool
     ensures { result ≡ spec.are_pointer_arguments (seen at.now) room ty es.now }
 {
     match ty {
         Some(Ty::Function(number)) => {
-            match at.program.types.parts().signatures.as_slice().get(number as usize) {
+            match at
+                .program
+                .types
+                .parts()
+                .signatures
+                .as_slice()
+                .get(number as usize)
+            {
                 None => false,
                 Some(signature) => are_arguments(at, room, signature.params.as_slice(), es),
             }
@@ -107,12 +109,7 @@ fn are_pointer_arguments(
     }
 }
 
-fn are_function_arguments(
-    at: &Declarations,
-    room: u32,
-    function: u32,
-    es: &[TypedExpr],
-) -> bool
+fn are_function_arguments(at: &Declarations, room: u32, function: u32, es: &[TypedExpr]) -> bool
     ensures { result ≡ option_map_or (λ d. spec.are_arguments (seen at.now) room d.params es.now) (slice_get at.now.program.now.functions function) false }
 {
     match at.program.functions.as_slice().get(function as usize) {
@@ -206,7 +203,10 @@ fn is_right_side(at: &Declarations, room: u32, ty: TyId, rhs: &Rhs) -> bool
         Rhs::Call(call, to) => {
             is_call(at, room.saturating_sub(1), room, call)
                 && *to == ty
-                && converts(call_result(at.program, &call.callee), type_of(at.program, ty))
+                && converts(
+                    call_result(at.program, &call.callee),
+                    type_of(at.program, ty),
+                )
         }
     }
 }

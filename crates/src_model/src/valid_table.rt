@@ -97,7 +97,11 @@ fn has_kinds(parts: &Parts) -> bool
 fn has_struct(parts: &Parts, number: u64) -> bool
     ensures { result ≡ spec.has_struct parts.now number }
 {
-    parts.types.as_slice().iter().any(|ty| is_struct(number, ty))
+    parts
+        .types
+        .as_slice()
+        .iter()
+        .any(|ty| is_struct(number, ty))
 }
 
 fn has_union(parts: &Parts, number: u64) -> bool
@@ -144,8 +148,7 @@ fn has_pointer_to(parts: &Parts, number: u64) -> bool
 fn has_pointer(parts: &Parts, number: u64) -> bool
     ensures { result ≡ spec.has_pointer parts.now number }
 {
-    !has_stars(parts, GREATEST_STARS, find(parts, number))
-        || has_pointer_to(parts, number)
+    !has_stars(parts, GREATEST_STARS, find(parts, number)) || has_pointer_to(parts, number)
 }
 
 fn is_no_array_pointer(parts: &Parts, ty: &Ty) -> bool
