@@ -13,3 +13,9 @@ pub mod Fuel
 pub mod LayoutLengths
 pub mod PartBytes
 pub mod FuelSame
+pub mod ValidTrees
+pub mod ValidBounds
+pub mod ValidRows
+pub mod ValidTypeFacts
+pub mod ValidMarks
+pub mod ValidItems

@@ -16,6 +16,16 @@ pub mod program;
 pub mod stmt;
 #[cfg(test)]
 mod tests;
+mod valid;
+mod valid_depth;
+mod valid_expr;
+mod valid_fits;
+mod valid_init;
+mod valid_names;
+mod valid_numbering;
+mod valid_stmt;
+mod valid_table;
+mod valid_types;
 pub mod value;
 
 pub use initial::initial_store;
