@@ -1,7 +1,7 @@
 -- What accepted code has.
 use Rattle.std.proofs.Common.{◌≡◌, ◌∙◌, sym, ap, ℕ, ◌≤◌, length, Some, arith}
 use Rattle.bm_code.specs.declared.code.MachineCode.{MachineCode}
-use Rattle.bm_run.specs.Transferred.{IsFunction, IsSized}
+use Rattle.bm_run.specs.Transferred.{IsSized}
 use Rattle.bm_serve.specs.Held.{HasKnownSites}
 use Rattle.bm_cpu.specs.Accepted.{IsAccepted, HasParameters}
 

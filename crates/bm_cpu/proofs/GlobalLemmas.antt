@@ -1,5 +1,5 @@
 -- The objects of globals, one after the other.
-use Rattle.std.proofs.Common.{◌≡◌, ◌∙◌, refl, ap, sym, subst, true, ℕ, zero, suc, ◌+◌, ◌*◌, ◌<◌, ◌≤◌, ◌^◌, Bool, ◌&&◌, List, [], ◌∷◌, ◌++◌, length, drop, get_or, Some, None, arith}
+use Rattle.std.proofs.Common.{◌≡◌, ◌∙◌, ap, sym, true, ℕ, zero, suc, ◌+◌, ◌*◌, ◌<◌, List, [], ◌∷◌, ◌++◌, length, get_or, Some, arith}
 use Rattle.std.specs.Prelude.{not, slice_get}
 use Rattle.std.specs.FinMap.{insert}
 use Rattle.std.proofs.lemmas.Bool.Decides.{nat_tests}
@@ -11,10 +11,9 @@ use Rattle.c_types.proofs.Numbered.{list_all-at, types_numbered}
 use Rattle.bm_mem.specs.Content.{Content}
 use Rattle.bm_objects.specs.declared.row.Row.{Row}
 use Rattle.bm_objects.specs.Table.{address_after}
-use Rattle.bm_code.specs.declared.code.MachineCode.{MachineCode}
 use Rattle.bm_code.specs.declared.code.MachineGlobal.{MachineGlobal}
-use Rattle.bm_cpu.specs.Accepted.{IsAccepted, global_bytes}
-use Rattle.bm_cpu.specs.Globals.{Placed, global_row, with_global, with_globals}
+use Rattle.bm_cpu.specs.Accepted.{global_bytes}
+use Rattle.bm_cpu.specs.Globals.{Placed, global_row, with_global}
 
 some_in : {A : Type 0} (a b : A) → Some a ≡ Some b → a ≡ b
 some_in a b h = cc

@@ -2,4 +2,5 @@ mod AcceptedLemmas
 mod GlobalLemmas
 mod Rows
 mod Spaces
+mod TestLemmas
 mod WordLemmas

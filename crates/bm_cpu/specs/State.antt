@@ -1,10 +1,8 @@
 -- What a machine is.
-use Rattle.std.specs.Prelude.{ℕ, ℤ, pos, Bool, true, false, List, []}
+use Rattle.std.specs.Prelude.{ℕ, pos, Bool, true, false, List, []}
 use Rattle.std.specs.Coded.{Coded, coded_ℕ, coded_list}
 use Rattle.std.specs.FinMap as map
-use Rattle.lu_base.specs.declared.message.Message.{Message}
 use Rattle.bm_mem.specs.Content.{Content}
-use Rattle.bm_objects.specs.declared.row.Row.{Row}
 use Rattle.bm_code.specs.declared.code.MachineCode.{MachineCode}
 use Rattle.bm_code.specs.declared.world.World.{World}
 use Rattle.bm_code.specs.Process.{Activity, Idle, Starting, Running, Process, call_ticks}

@@ -4,3 +4,5 @@
 pub mod first;
 pub mod machine;
 mod objects;
+#[cfg(test)]
+mod tests;

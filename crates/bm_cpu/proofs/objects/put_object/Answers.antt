@@ -1,4 +1,4 @@
-use Rattle.std.proofs.Common.{◌≡◌, ◌∙◌, ◌+◌, ap, sym, subst, refl}
+use Rattle.std.proofs.Common.{◌≡◌, ◌+◌, ap, sym, subst, refl}
 use Rattle.bm_space.specs.Space.{IsSpace}
 use Rattle.bm_space.proofs.Added.{is_fresh, some_there, undone}
 use Rattle.bm_cpu.proofs.Spaces.{space_more}
