@@ -120,12 +120,12 @@ types_correspond old new renames =
     corresponds old.types new.types (struct_pairs old new renames) (union_pairs old new renames)
 
 -- the pair of a function, if both have the same number of sites and the types that they allocate correspond in order
-abbrev pub partner_if : (ℕ → ℕ → Bool) → List Site → List Site → ℕ → ℕ → Option ℕ
-partner_if same old new f g = if all_correspond same (site_elements old f) (site_elements new g) then Some g else None
+abbrev pub partner_if : (ℕ → ℕ → Bool) → (ℕ → List ℕ) → (ℕ → List ℕ) → ℕ → ℕ → Option ℕ
+partner_if same old new f g = if all_correspond same (old f) (new g) then Some g else None
 
 abbrev pub site_partner : Program → Program → List Rename → ℕ → Option ℕ
 site_partner old new renames f =
-    then_option (entry_at (function_pairs old new renames) f) (partner_if (types_correspond old new renames) old.sites new.sites f)
+    then_option (entry_at (function_pairs old new renames) f) (partner_if (types_correspond old new renames) (site_elements old.sites) (site_elements new.sites) f)
 
 -- The k-th site of a function pairs with the k-th of such a partner.
 abbrev pub wanted_site : Program → Program → List Rename → Site → Option (List ℕ)

@@ -1,3 +1,6 @@
+ghost use Rattle.std.specs.Prelude.{◌≡◌};
+ghost use Rattle.lu_image.specs.declared.error.PairError.TheVariants as PairError;
+
 use crate::rename::Table;
 use lu_base::{Memory, Name};
 use std::alloc::{AllocError, AllocFailed};
@@ -15,18 +18,24 @@ pub enum PairError {
 }
 
 impl From<Memory> for PairError {
+    ghost from_gives = { λ _ e. e ≡ PairError.Memory };
+
     fn from(_: Memory) -> Self {
         PairError::Memory
     }
 }
 
 impl From<AllocError> for PairError {
+    ghost from_gives = { λ _ e. e ≡ PairError.Memory };
+
     fn from(_: AllocError) -> Self {
         PairError::Memory
     }
 }
 
 impl<T: Drop> From<AllocFailed<T>> for PairError {
+    ghost from_gives = { λ _ e. e ≡ PairError.Memory };
+
     fn from(_: AllocFailed<T>) -> Self {
         PairError::Memory
     }
