@@ -13,3 +13,12 @@ pub mod Delivery
 pub mod Store
 pub mod ValueBytes
 pub mod Weight
+pub mod Constant
+pub mod ValidTypes
+pub mod ValidExpression
+pub mod ValidDepth
+pub mod ValidStatement
+pub mod ValidInitialiser
+pub mod ValidNumbering
+pub mod ValidNames
+pub mod Valid

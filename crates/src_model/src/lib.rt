@@ -13,4 +13,5 @@ pub mod program;
 pub mod stmt;
 #[cfg(test)]
 mod tests;
+mod valid_names;
 pub mod value;

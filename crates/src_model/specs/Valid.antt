@@ -1,0 +1,223 @@
+-- When a program is valid: what each program has that the rules of the language accept.
+use Rattle.std.specs.Prelude.{ℕ, ◌+◌, ◌-◌, Bool, true, false, ◌&&◌, ◌||◌, not, nat_eq, nat_lt, nat_le, IsTrue, List, [], ◌∷◌, ◌++◌, map, sum, length, Option, Some, None, codes, slice_get}
+use Rattle.std.specs.List.{list_all, list_any}
+use Rattle.std.specs.Option.{option_map_or}
+use Rattle.c_types.specs.declared.parts.IntKind.{IntKind}
+use Rattle.c_types.specs.declared.parts.IntKind.TheVariants as K
+use Rattle.c_types.specs.declared.parts.FieldDef.{FieldDef}
+use Rattle.c_types.specs.declared.parts.TagDef.{TagDef}
+use Rattle.c_types.specs.declared.parts.Signature.{Signature}
+use Rattle.c_types.specs.declared.parts.Ty.{Ty}
+use Rattle.c_types.specs.declared.parts.Ty.TheVariants as T
+use Rattle.c_types.specs.declared.parts.Parts.{Parts}
+use Rattle.c_types.specs.declared.parts.TheConstants.{POINTER_SIZE}
+use Rattle.c_types.specs.Layout.{greatest, size_of}
+use Rattle.c_types.specs.Refusal.{IsBuilt}
+use Rattle.src_model.specs.declared.program.Init.{Init, Zero}
+use Rattle.src_model.specs.declared.program.Function.{Function}
+use Rattle.src_model.specs.declared.program.Global as Text
+use Rattle.src_model.specs.declared.program.Site.{Site}
+use Rattle.src_model.specs.declared.program.Program.{Program}
+use Rattle.src_model.specs.Store.{has_signature}
+use Rattle.src_model.specs.ValidTypes.{ty, is_array, is_int, points_to, has_stars, is_named, is_result, signature_is_declared, greatest_params, greatest_stars, is_declared_scalar, is_declared_object}
+use Rattle.src_model.specs.ValidExpression.{Declarations}
+use Rattle.src_model.specs.ValidStatement.{are_statements}
+use Rattle.src_model.specs.ValidInitialiser.{is_start}
+use Rattle.src_model.specs.ValidNumbering.{is_numbered}
+use Rattle.src_model.specs.ValidNames.{are_names, differ, is_name, is_free, is_called, global_names}
+
+-- the most structs, unions, fields of one, globals, functions and sites
+abbrev pub greatest_count : ℕ
+greatest_count = 4096
+
+abbrev pub is_few : {A : Type 0} → List A → Bool
+is_few xs = nat_le (length xs) greatest_count
+
+-- ---- the table of types
+
+abbrev pub same_kind : IntKind → IntKind → Bool
+same_kind K.Char K.Char = true
+same_kind K.UChar K.UChar = true
+same_kind K.Short K.Short = true
+same_kind K.UShort K.UShort = true
+same_kind K.Int K.Int = true
+same_kind K.UInt K.UInt = true
+same_kind K.LongLong K.LongLong = true
+same_kind K.ULongLong K.ULongLong = true
+same_kind _ _ = false
+
+abbrev pub is_of_kind : IntKind → Ty → Bool
+is_of_kind kind (T.Int k) = same_kind k kind
+is_of_kind kind _ = false
+
+abbrev pub is_struct : ℕ → Ty → Bool
+is_struct s (T.Struct k) = nat_eq k s
+is_struct s _ = false
+
+abbrev pub is_union : ℕ → Ty → Bool
+is_union u (T.Union k) = nat_eq k u
+is_union u _ = false
+
+abbrev pub is_pointer_to_function : ℕ → Ty → Bool
+is_pointer_to_function g (T.Function k) = nat_eq k g
+is_pointer_to_function g _ = false
+
+abbrev pub is_void_pointer : Ty → Bool
+is_void_pointer T.VoidPointer = true
+is_void_pointer _ = false
+
+abbrev pub has_kind : Parts → IntKind → Bool
+has_kind p kind = list_any (is_of_kind kind) p.types
+
+abbrev pub kinds : List IntKind
+kinds = K.Char ∷ K.UChar ∷ K.Short ∷ K.UShort ∷ K.Int ∷ K.UInt ∷ K.LongLong ∷ K.ULongLong ∷ []
+
+-- the test passes for each number from k on, one for each entry
+abbrev pub all_from : {A : Type 0} → (ℕ → Bool) → ℕ → List A → Bool
+all_from test k [] = true
+all_from test k (x ∷ xs) = test k && all_from test (k + 1) xs
+
+-- a type with fewer than nine stars has its pointer type in the table
+abbrev pub has_pointer : Parts → ℕ → Bool
+has_pointer p t = not (has_stars p greatest_stars (ty p t)) || list_any (λ u. points_to (Some u) t) p.types
+
+abbrev pub is_no_array_pointer : Parts → Ty → Bool
+is_no_array_pointer p (T.Pointer t) = not (is_array (ty p t))
+is_no_array_pointer p _ = true
+
+-- all integer types, each struct and union, `void *`, the function pointer type of each signature, and each pointer
+-- type of at most nine stars over one of these; no pointer to an array
+abbrev pub has_types : Parts → Bool
+has_types p =
+    list_all (has_kind p) kinds
+    && (all_from (λ s. list_any (is_struct s) p.types) 0 p.structs
+    && (all_from (λ u. list_any (is_union u) p.types) 0 p.unions
+    && (all_from (λ g. list_any (is_pointer_to_function g) p.types) 0 p.signatures
+    && (list_any is_void_pointer p.types
+    && (all_from (has_pointer p) 0 p.types && list_all (is_no_array_pointer p) p.types)))))
+
+-- ---- tags, globals, functions, sites
+
+-- the room where no construct is open
+abbrev pub top : ℕ
+top = 65
+
+abbrev pub is_field : Program → FieldDef → Bool
+is_field p f = is_name p.names f.name && is_declared_object p.types top f.ty
+
+abbrev pub is_tag : Program → TagDef → Bool
+is_tag p d = is_name p.names d.tag && (is_few d.fields && list_all (is_field p) d.fields)
+
+-- a signature that some text declares
+abbrev pub is_signature : Parts → Signature → Bool
+is_signature p g = signature_is_declared (is_declared_scalar p (top - 1)) p (Some g)
+
+abbrev pub is_int_named : Program → List ℕ → FieldDef → Bool
+is_int_named p word f = is_called p.names f.name word && is_int (ty p.types f.ty)
+
+abbrev pub is_int_array : Parts → ℕ → Option Ty → Bool
+is_int_array p count (Some (T.Array u n)) = is_int (ty p u) && nat_eq n count
+is_int_array p count _ = false
+
+-- int source, int type and int arg[6]
+abbrev pub are_message_fields : Program → List FieldDef → Bool
+are_message_fields p (a ∷ b ∷ c ∷ []) =
+    is_int_named p (codes "source") a && (is_int_named p (codes "type") b && (is_called p.names c.name (codes "arg") && is_int_array p.types 6 (ty p.types c.ty)))
+are_message_fields p _ = false
+
+abbrev pub is_message_tag : Program → Option TagDef → Bool
+is_message_tag p None = false
+is_message_tag p (Some d) = is_called p.names d.tag (codes "message") && are_message_fields p d.fields
+
+-- `struct message`
+abbrev pub is_message : Program → Option Ty → Bool
+is_message p (Some (T.Struct s)) = is_message_tag p (slice_get p.types.structs s)
+is_message p _ = false
+
+abbrev pub is_zero_start : Init → Bool
+is_zero_start Zero = true
+is_zero_start _ = false
+
+-- a global of that name for messages, zero at the start
+abbrev pub is_message_global : Program → List ℕ → Text.Global → Bool
+is_message_global p word g =
+    is_called p.names g.name word && (is_message p (ty p.types g.ty) && is_zero_start g.init)
+
+-- the first two globals are `m_in` and `m_out`
+abbrev pub has_messages : Program → List Text.Global → Bool
+has_messages p (a ∷ b ∷ rest) = is_message_global p (codes "m_in") a && is_message_global p (codes "m_out") b
+has_messages p _ = false
+
+abbrev pub is_global : Program → ℕ → Text.Global → Bool
+is_global p g d = is_free p.names d.name && (is_declared_object p.types top d.ty && is_start p g d.ty d.init)
+
+abbrev pub are_globals : Program → ℕ → List Text.Global → Bool
+are_globals p g [] = true
+are_globals p g (d ∷ ds) = is_global p g d && are_globals p (g + 1) ds
+
+abbrev pub globals_size : Program → ℕ
+globals_size p = sum (map (λ g. size_of POINTER_SIZE p.types g.ty) p.globals)
+
+-- the most locals of a function, its parameters among them
+abbrev pub greatest_locals : ℕ
+greatest_locals = 256
+
+abbrev pub has_few_locals : Function → Bool
+has_few_locals f = nat_le (length f.params) greatest_params && nat_le (length f.params + length f.locals) greatest_locals
+
+abbrev pub declarations_of : Program → Function → Declarations
+declarations_of p f = record { program = p; params = f.params; locals = f.locals }
+
+-- A function: the parameters stand in one construct, and the statements of its body in two
+abbrev pub is_function : Program → Function → Bool
+is_function p f =
+    is_free p.names f.name
+    && (has_few_locals f
+    && (is_result p.types f.ret
+    && (list_all (is_declared_scalar p.types (top - 1)) f.params
+    && (list_any (has_signature f) p.types.signatures
+    && are_statements (declarations_of p f) f.ret false (top - 2) f.body))))
+
+abbrev pub is_nothing : Option ℕ → Bool
+is_nothing None = true
+is_nothing (Some t) = false
+
+abbrev pub is_empty : List ℕ → Bool
+is_empty [] = true
+is_empty _ = false
+
+-- a function of that name without parameters and without a result
+abbrev pub is_handler : Program → List ℕ → Function → Bool
+is_handler p word f = is_called p.names f.name word && (is_empty f.params && is_nothing f.ret)
+
+abbrev pub has_handlers : Program → Bool
+has_handlers p =
+    list_any (is_handler p (codes "init")) p.functions && list_any (is_handler p (codes "on_message")) p.functions
+
+abbrev pub has_few_entries : Program → Bool
+has_few_entries p =
+    is_few p.types.structs && (is_few p.types.unions && (is_few p.globals && (is_few p.functions && is_few p.sites)))
+
+abbrev pub are_tags : Program → Bool
+are_tags p = list_all (is_tag p) p.types.structs && list_all (is_tag p) p.types.unions
+
+-- all but that the types are those of a table
+abbrev pub is_valid : Program → Bool
+is_valid p =
+    are_names p.names
+    && (has_few_entries p
+    && (has_types p.types
+    && (are_tags p
+    && (list_all (is_signature p.types) p.types.signatures
+    && (differ (global_names p)
+    && (has_messages p p.globals
+    && (are_globals p 0 p.globals
+    && (nat_le (globals_size p) greatest
+    && (list_all (is_function p) p.functions
+    && (has_handlers p
+    && (list_all (λ s. is_named p.types s.elem) p.sites && is_numbered p.sites p.functions)))))))))))
+
+-- a valid program
+pub record IsValid (p : Program) : Type 0 where
+  pub built : IsBuilt POINTER_SIZE p.types
+  pub rules : IsTrue (is_valid p)
