@@ -1,4 +1,5 @@
 use crate::expr::{ExprKind, TypedExpr};
+use crate::initial_store;
 use crate::program::{Function, Global as GlobalVariable, Init, Program, Site};
 use crate::stmt::{Rhs, TypedStmt};
 use c_types::{
@@ -170,5 +171,18 @@ fn programs_are_valid_or_have_a_flaw(rt: HostRuntime) -> Result<(), Fail> {
     assert!(rt; !with_statement(alloc, b"m_in", TypedStmt::Empty)?.valid());
     assert!(rt; !with_statement(alloc, b"int", TypedStmt::Empty)?.valid());
     assert!(rt; !sample(alloc)?.valid());
+    Ok(())
+}
+
+#[test]
+fn the_store_at_the_start_has_each_global(rt: HostRuntime) -> Result<(), Fail> {
+    let alloc = rt.alloc();
+    let program = with_statement(alloc, b"on_message", TypedStmt::Empty)?;
+    let store = initial_store(alloc, &program)?;
+    assert_eq!(rt; store.objects.len(), 2);
+    for object in store.objects.as_slice() {
+        assert!(rt; object.elements.is_some());
+        assert_eq!(rt; object.count, 1);
+    }
     Ok(())
 }
