@@ -10,9 +10,6 @@ pub mod names;
 pub mod operators;
 pub mod places;
 pub mod rule;
-pub mod scope;
-#[cfg(test)]
-mod tests;
-pub mod typing;
+pub mod scope;pub mod typing;
 pub mod uses;
 pub mod values;
