@@ -10,6 +10,7 @@ pub mod names;
 pub mod operators;
 pub mod places;
 pub mod rule;
-pub mod scope;pub mod typing;
+pub mod scope;
+pub mod typing;
 pub mod uses;
 pub mod values;
