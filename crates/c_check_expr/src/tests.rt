@@ -312,7 +312,7 @@ fn assigned(
     }
 }
 
-const EXPRESSIONS: [(&str, Result<u32, u32>); 131] = [
+const VALUES: [(&str, Result<u32, u32>); 25] = [
     ("1", Ok(INT)),
     ("2147483648", Ok(LONG)),
     ("1u", Ok(UINT)),
@@ -338,6 +338,9 @@ const EXPRESSIONS: [(&str, Result<u32, u32>); 131] = [
     ("f", Ok(FUNCTION)),
     ("send", Err(20)),
     ("malloc + nothing", Err(11)),
+];
+
+const ADDRESSES: [(&str, Result<u32, u32>); 24] = [
     ("&g", Ok(INT_P)),
     ("&(a[8])", Ok(INT_P)),
     ("&*ip", Ok(INT_P)),
@@ -362,6 +365,9 @@ const EXPRESSIONS: [(&str, Result<u32, u32>); 131] = [
     ("v.b[1]", Ok(CHAR)),
     ("&v.b[1]", Err(13)),
     ("v.p[1]", Ok(INT)),
+];
+
+const PARTS: [(&str, Result<u32, u32>); 30] = [
     ("s.text", Ok(CHAR_P)),
     ("s.n", Ok(INT)),
     ("s.next->n", Ok(INT)),
@@ -392,6 +398,9 @@ const EXPRESSIONS: [(&str, Result<u32, u32>); 131] = [
     ("a[ip]", Err(16)),
     ("a[s]", Err(16)),
     ("ns[1].n", Ok(INT)),
+];
+
+const OPERATORS: [(&str, Result<u32, u32>); 35] = [
     ("ip + 1", Ok(INT_P)),
     ("c + ip", Ok(INT_P)),
     ("a + 1", Ok(INT_P)),
@@ -427,6 +436,9 @@ const EXPRESSIONS: [(&str, Result<u32, u32>); 131] = [
     ("fp == gp", Err(16)),
     ("fp == q", Err(16)),
     ("s == s", Err(16)),
+];
+
+const CHOICES_AND_CASTS: [(&str, Result<u32, u32>); 29] = [
     ("g ? c : u", Ok(UINT)),
     ("g ? ip : 0", Ok(INT_P)),
     ("g ? 0 : fp", Ok(FUNCTION)),
@@ -444,9 +456,6 @@ const EXPRESSIONS: [(&str, Result<u32, u32>); 131] = [
     ("(void *)fp", Err(24)),
     ("(struct node)s", Err(24)),
     ("sizeof(struct node)", Ok(UINT)),
-];
-
-const MORE: [(&str, Result<u32, u32>); 12] = [
     ("sizeof(struct late)", Err(3)),
     ("(struct late *)q", Ok(LATE_P)),
     ("sizeof(union node)", Err(3)),
@@ -567,13 +576,50 @@ const ASSIGNMENTS: [(&str, &str, Result<u32, u32>); 33] = [
 ];
 
 #[test]
-fn expressions_have_their_types_or_codes(rt: HostRuntime) -> Result<(), Fail> {
+fn values_and_integers_have_their_types_or_codes(rt: HostRuntime) -> Result<(), Fail> {
     let alloc = rt.alloc();
     let scope = scope(alloc)?;
-    for (text, wanted) in EXPRESSIONS {
+    for (text, wanted) in VALUES {
         assert!(rt; judged(alloc, &scope, text)? == wanted, "{text}");
     }
-    for (text, wanted) in MORE {
+    Ok(())
+}
+
+#[test]
+fn addresses_have_their_types_or_codes(rt: HostRuntime) -> Result<(), Fail> {
+    let alloc = rt.alloc();
+    let scope = scope(alloc)?;
+    for (text, wanted) in ADDRESSES {
+        assert!(rt; judged(alloc, &scope, text)? == wanted, "{text}");
+    }
+    Ok(())
+}
+
+#[test]
+fn parts_have_their_types_or_codes(rt: HostRuntime) -> Result<(), Fail> {
+    let alloc = rt.alloc();
+    let scope = scope(alloc)?;
+    for (text, wanted) in PARTS {
+        assert!(rt; judged(alloc, &scope, text)? == wanted, "{text}");
+    }
+    Ok(())
+}
+
+#[test]
+fn operators_have_their_types_or_codes(rt: HostRuntime) -> Result<(), Fail> {
+    let alloc = rt.alloc();
+    let scope = scope(alloc)?;
+    for (text, wanted) in OPERATORS {
+        assert!(rt; judged(alloc, &scope, text)? == wanted, "{text}");
+    }
+    Ok(())
+}
+
+#[test]
+fn choices_and_casts_have_their_types_or_codes(rt: HostRuntime) -> Result<(), Fail> {
+    let alloc = rt.alloc();
+    let scope = scope(alloc)?;
+    for (text, wanted) in CHOICES_AND_CASTS {
         assert!(rt; judged(alloc, &scope, text)? == wanted, "{text}");
     }
     Ok(())
