@@ -26,7 +26,7 @@ table = record {
       ∷ [];
   structs = [];
   unions = [];
-  signatures = []
+  signatures = [];
 }
 
 abbrev same : ℕ → ℕ → Bool

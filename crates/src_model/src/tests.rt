@@ -90,8 +90,11 @@ fn types_of_messages(alloc: Global) -> Result<TypeTable, Fail> {
     for base in 0..11u32 {
         let mut to = base;
         for _ in 0..if base == 10 { 8 } else { 9 } {
+            let Ok(pointer) = u32::try_from(types.len()) else {
+                return Err("the types are too many".into());
+            };
             types.push(Ty::Pointer(to))?;
-            to = (types.len() - 1) as u32;
+            to = pointer;
         }
     }
     let fields = vec![in alloc;
