@@ -1,2 +1,4 @@
 pub mod Descending
 pub mod CorrespondenceIs
+pub mod Samples
+mod PairingExamples

@@ -4,3 +4,4 @@ pub mod Descent
 pub mod Names
 pub mod Pairing
 pub mod RenameRefusal
+pub mod Pairs
