@@ -21,7 +21,6 @@ use src_model::program::Program;
 use std::alloc::Global;
 
 /// Pairs the globals.
-#[tactic(none)]
 fn pair_globals(
     alloc: Global,
     old: &Program,
@@ -42,7 +41,6 @@ fn pair_globals(
 }
 
 /// Pairs the functions.
-#[tactic(none)]
 fn pair_functions(
     alloc: Global,
     old: &Program,
@@ -80,7 +78,6 @@ struct TagTask<'a> {
 }
 
 /// Pairs structs and their fields, or unions and their members.
-#[tactic(none)]
 fn pair_tags(alloc: Global, task: &TagTask) -> Result<TagPairs, PairError>
     requires few { length task.now.new.now < 2 ^ 32 }
     requires few_parts { HaveFewParts task.now.new.now }
@@ -114,7 +111,6 @@ struct Pairs<'a> {
 }
 
 /// Pairs the sites.
-#[tactic(none)]
 fn pair_all_sites(
     alloc: Global,
     old: &Program,
@@ -156,7 +152,6 @@ fn pair_all_sites(
 }
 
 /// The structs of two programs.
-#[tactic(none)]
 fn struct_task<'a>(old: &'a Program, new: &'a Program, renames: &'a [Rename]) -> TagTask<'a>
     ensures task { IsStructTask old.now new.now renames.now result }
     ensures few { length result.new.now < 2 ^ 32 }
@@ -176,7 +171,6 @@ fn struct_task<'a>(old: &'a Program, new: &'a Program, renames: &'a [Rename]) ->
 }
 
 /// The unions of two programs.
-#[tactic(none)]
 fn union_task<'a>(old: &'a Program, new: &'a Program, renames: &'a [Rename]) -> TagTask<'a>
     ensures task { IsUnionTask old.now new.now renames.now result }
     ensures few { length result.new.now < 2 ^ 32 }
@@ -228,7 +222,6 @@ fn pair_unions(
 }
 
 /// Whether each list of a program's globals, functions and sites is shorter than there are numbers of 32 bits.
-#[tactic(none)]
 pub fn has_few_entries(program: &Program) -> bool
     ensures { Tells result (HasFewEntries program.now) }
 {
@@ -248,7 +241,6 @@ pub fn has_few_entries(program: &Program) -> bool
 /// or a member in the pair of its struct or union, or where it is `m_in`, `m_out` or `message`. Else `Twice` with a new
 /// name that an earlier rename gives, for a field or a member one of the same struct or union. `Memory` where an
 /// allocation was refused.
-#[tactic(none)]
 pub fn pair(
     alloc: Global,
     old: &Program,
