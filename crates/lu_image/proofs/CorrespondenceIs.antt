@@ -1,11 +1,11 @@
 -- In a built table correspondence is its own equation: how far the recursion may go is no matter.
-use Rattle.std.proofs.Common.{◌≡◌, ◌∙◌, ◌⊎◌, inl, inr, sym, ap, subst, refl, ℕ, zero, suc, ◌<◌, Bool, true, false, not, List, [], ◌∷◌, length, Option, Some, None, slice_get, arith}
+use Rattle.std.proofs.Common.{◌≡◌, ◌∙◌, inr, sym, ap, subst, refl, ℕ, zero, suc, ◌<◌, Bool, true, false, not, List, [], ◌∷◌, length, Option, Some, None, slice_get, arith}
 use Rattle.std.proofs.lemmas.Option.{slice_get_within}
 use Rattle.std.specs.Prelude.{Contains}
 use Rattle.c_types.specs.declared.parts.Ty.{Ty}
 use Rattle.c_types.specs.declared.parts.Ty.TheVariants.{Int, Pointer, VoidPointer, Function, Struct, Union, Array}
 use Rattle.c_types.specs.declared.parts.Parts.{Parts}
-use Rattle.c_types.specs.Chain.{Edges, Chain, one, more, is_settled, pointed_by, pointed_in, IsPointer, IsCyclic}
+use Rattle.c_types.specs.Chain.{Edges, Chain, one, more, is_settled, pointed_by, pointed_in, IsPointer}
 use Rattle.c_types.specs.Recursion.{at_type, by_fuel}
 use Rattle.c_types.specs.Refusal.{IsBuilt}
 use Rattle.c_types.specs.Numbering.{is_array, names_entry}

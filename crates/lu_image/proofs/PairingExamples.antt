@@ -7,7 +7,7 @@ use Rattle.lu_image.specs.declared.rename.Table.TheVariants as T
 use Rattle.lu_image.specs.declared.rename.Rename.{Rename}
 use Rattle.lu_image.specs.declared.error.PairError.{PairError}
 use Rattle.lu_image.specs.declared.error.PairError.TheVariants.{NoSuch, Twice}
-use Rattle.lu_image.specs.Pairing.{global_pairs, struct_pairs, field_pairs, union_pairs, member_pairs, function_pairs, site_pairs, pairing_of}
+use Rattle.lu_image.specs.Pairing.{global_pairs, struct_pairs, field_pairs, member_pairs, function_pairs, site_pairs, pairing_of}
 use Rattle.lu_image.specs.RenameRefusal.{refusal_of, pair}
 use Rattle.lu_image.proofs.Samples.{counter, cycle, tagged_cycle, cycle_with_word, cycle_of_words, shared, shared_of_three, twins, rename}
 

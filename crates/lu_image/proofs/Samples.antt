@@ -1,5 +1,5 @@
 -- Small programs: an integer, a list of nodes, and two structs with a union.
-use Rattle.std.proofs.Common.{ℕ, List, [], ◌∷◌, ◌++◌, Option, Some, None}
+use Rattle.std.proofs.Common.{ℕ, List, [], ◌∷◌, ◌++◌, None}
 use Rattle.std.specs.Prelude.{codes}
 use Rattle.c_types.specs.declared.parts.Parts.{Parts}
 use Rattle.c_types.specs.declared.parts.TagDef.{TagDef}
@@ -48,7 +48,7 @@ parts structs unions = record {
   types = T.Int K.Int ∷ T.Array 0 6 ∷ T.Struct 0 ∷ T.Struct 1 ∷ T.Pointer 3 ∷ T.Int K.LongLong ∷ [];
   structs = message ∷ structs;
   unions = unions;
-  signatures = []
+  signatures = [];
 }
 
 abbrev pub global : ℕ → ℕ → G.Global
@@ -67,7 +67,7 @@ program structs unions globals functions sites = record {
   types = parts structs unions;
   globals = global 4 2 ∷ global 5 2 ∷ globals;
   functions = functions ++ function 6 ∷ function 7 ∷ [];
-  sites = sites
+  sites = sites;
 }
 
 -- int n, and later long long n

@@ -1,9 +1,8 @@
 -- The names of a program's entries.
-use Rattle.std.specs.Prelude.{◌≡◌, ℕ, ◌+◌, Bool, true, false, nat_eq, if◌then◌else◌, List, [], ◌∷◌, ◌++◌, map, Option, Some, None, slice_get}
+use Rattle.std.specs.Prelude.{ℕ, ◌+◌, Bool, false, if◌then◌else◌, List, [], ◌∷◌, ◌++◌, map, Option, Some, None, slice_get}
 use Rattle.std.specs.Option.{option_map}
 use Rattle.std.specs.Str.{bytes_eq}
 use Rattle.std.specs.Fmt.{decimal}
-use Rattle.lu_spec.specs.Then.{then_option}
 use Rattle.c_types.specs.declared.parts.TagDef.{TagDef}
 use Rattle.c_types.specs.declared.parts.FieldDef.{FieldDef}
 use Rattle.src_model.specs.declared.program.Program.{Program}

@@ -1,10 +1,9 @@
 -- Which entries of two programs pair under some renames.
-use Rattle.std.specs.Prelude.{◌≡◌, ℕ, Bool, true, false, ◌&&◌, ◌==◌, nat_eq, if◌then◌else◌, List, [], ◌∷◌, ◌++◌, map, filter, is_some, Option, Some, None, slice_get}
+use Rattle.std.specs.Prelude.{ℕ, Bool, true, false, ◌&&◌, ◌==◌, nat_eq, if◌then◌else◌, List, [], ◌∷◌, ◌++◌, map, filter, is_some, Option, Some, None, slice_get}
 use Rattle.std.specs.List.{before_first}
 use Rattle.lu_spec.specs.Then.{then_option}
 use Rattle.c_types.specs.declared.parts.TagDef.{TagDef}
 use Rattle.c_types.specs.declared.parts.FieldDef.{FieldDef}
-use Rattle.c_types.specs.declared.parts.Parts.{Parts}
 use Rattle.c_types.specs.Tables.{fields_in}
 use Rattle.src_model.specs.declared.program.Program.{Program}
 use Rattle.src_model.specs.declared.program.Site.{Site}
@@ -15,7 +14,7 @@ use Rattle.lu_image.specs.declared.pairing.Dangling.TheVariants.{Refuse}
 use Rattle.lu_image.specs.declared.pairing.Outline.{Outline}
 use Rattle.lu_image.specs.declared.pairing.Pairing.{Pairing}
 use Rattle.lu_image.specs.Renaming.{is_in_table}
-use Rattle.lu_image.specs.Names.{Names, flat, entry_at, find, global_names, function_names, struct_names, union_names, part_names, site_name, site_names}
+use Rattle.lu_image.specs.Names.{Names, entry_at, find, global_names, function_names, struct_names, union_names, part_names, site_name, site_names}
 use Rattle.lu_image.specs.Correspondence.{corresponds}
 
 -- the renames of a table

@@ -13,7 +13,6 @@ use Rattle.lu_image.specs.declared.pairing.Pairing.{Pairing}
 use Rattle.lu_image.specs.declared.handler.Handler.{Handler}
 use Rattle.lu_image.specs.Renaming.{are_in_order}
 use Rattle.lu_image.specs.Names.{entry_at}
-use Rattle.lu_image.specs.Correspondence.{do_pair}
 use Rattle.lu_image.specs.Pairing.{pairing_of}
 use Rattle.lu_image.specs.RenameRefusal.{refusal_of}
 
@@ -68,7 +67,7 @@ with_plan_of p q = record {
   new = p.new;
   dangling = q.dangling;
   handlers = q.handlers;
-  after = q.after
+  after = q.after;
 }
 
 -- The pairing pairs the two programs: both are valid, its lists, tables and types are theirs under some renames that are

@@ -1,5 +1,5 @@
 -- Which renames are refused.
-use Rattle.std.specs.Prelude.{◌≡◌, ℕ, Bool, true, false, ◌||◌, not, if◌then◌else◌, List, [], ◌∷◌, ◌++◌, map, is_some, Option, Some, None, Result, Ok, Err, slice_get, codes}
+use Rattle.std.specs.Prelude.{ℕ, Bool, false, ◌||◌, not, if◌then◌else◌, List, [], ◌∷◌, ◌++◌, map, is_some, Option, Some, None, Result, Ok, Err, slice_get, codes}
 use Rattle.std.specs.Str.{bytes_eq}
 use Rattle.c_types.specs.declared.parts.TagDef.{TagDef}
 use Rattle.src_model.specs.declared.program.Program.{Program}

@@ -1,4 +1,4 @@
-use Rattle.std.proofs.Common.{◌≡◌, ◌∙◌, sym, ap, suc, ◌+◌, ◌-◌, length, arith}
+use Rattle.std.proofs.Common.{◌≡◌, ap, suc, ◌+◌, ◌-◌, length, arith}
 use Rattle.c_types.specs.Recursion.{by_fuel}
 use Rattle.lu_image.specs.Correspondence.{correspond_step, nothing_corresponds}
 use Rattle.lu_image.proofs.Descending.{fuel-leads, fuel-leaf}
