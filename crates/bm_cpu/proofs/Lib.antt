@@ -1,1 +1,6 @@
+mod AcceptedLemmas
+mod GlobalLemmas
+mod Rows
+mod Spaces
+mod TestLemmas
 mod WordLemmas

@@ -1,1 +1,5 @@
+pub mod Accepted
+pub mod Fit
+pub mod Globals
+pub mod State
 pub mod Words

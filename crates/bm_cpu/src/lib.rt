@@ -2,3 +2,7 @@
 #![tactic(auto)]
 
 pub mod first;
+pub mod machine;
+mod objects;
+#[cfg(test)]
+mod tests;

@@ -1,3 +1,4 @@
 pub mod View
 pub mod Mapped
 pub mod Signs
+pub mod Start

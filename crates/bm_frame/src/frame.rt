@@ -1,6 +1,8 @@
 // One function under way.
 
 ghost use Rattle.std.specs.Prelude.{◌≡◌, IfOk};
+ghost use Rattle.bm_frame.specs.Start.{first_frame};
+ghost use Rattle.bm_frame.specs.View.{frame_of};
 
 use crate::locals::Locals;
 use crate::stack::Stack;
@@ -19,7 +21,10 @@ pub struct Frame {
 }
 
 impl Frame {
-    pub fn new(alloc: Global) -> Result<Frame, Memory> {
+    /// At the first instruction of function 0, with no locals and no words.
+    pub fn new(alloc: Global) -> Result<Frame, Memory>
+        ensures { IfOk result (λ frame. frame_of frame ≡ first_frame) }
+    {
         Ok(Frame {
             function: 0,
             place: 0,

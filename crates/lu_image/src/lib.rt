@@ -1,5 +1,5 @@
 //! What an update knows of two versions of a program: which of their entries belong together, and why an update may be
-//! refused. `specs/Pairing` says which entries pair under some renames, `specs/Refusal` which renames are refused, and
+//! refused. `specs/Pairing` says which entries pair under some renames, `specs/RenameRefusal` which renames are refused, and
 //! `specs/Correspondence` which types correspond.
 #![tactic(auto)]
 

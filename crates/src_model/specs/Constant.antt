@@ -1,5 +1,6 @@
 -- Expressions whose value the text alone decides: constants of integers, null, and addresses of globals and functions.
-use Rattle.std.specs.Prelude.{ℕ, Bool, true, false, ◌&&◌, ◌||◌, if◌then◌else◌, is_some, ℤ, pos, Option, Some, None, Result, Ok, Err, slice_get}
+use Rattle.std.specs.Prelude.{ℕ, Bool, true, false, ◌&&◌, ◌||◌, if◌then◌else◌, is_some, ℤ, Option, Some, None, Ok, Err, slice_get}
+use Rattle.lu_spec.specs.Then.{then_do}
 use Rattle.lu_base.specs.declared.trap.Trap.TheVariants.{BadCode}
 use Rattle.c_types.specs.declared.parts.Parts.{Parts}
 use Rattle.c_types.specs.declared.parts.IntKind.{IntKind}
@@ -7,6 +8,8 @@ use Rattle.c_types.specs.declared.parts.IntKind.TheVariants as K
 use Rattle.c_types.specs.declared.parts.Ty.{Ty}
 use Rattle.c_types.specs.declared.parts.Ty.TheVariants as T
 use Rattle.src_model.specs.declared.value.Value as V
+use Rattle.src_model.specs.declared.constant.Constant.{Constant}
+use Rattle.src_model.specs.declared.constant.Constant.TheVariants as C
 use Rattle.src_model.specs.declared.expr.TypedExpr.{TypedExpr}
 use Rattle.src_model.specs.declared.expr.BinaryOperator.{BinaryOperator}
 use Rattle.src_model.specs.declared.expr.BinaryOperator.TheVariants.{PointerAdd, AddPointer, PointerSubtract, PointerDifference}
@@ -40,10 +43,10 @@ abbrev mutual
   is_integer_constant p t (Convert' m e) = is_integer p t && is_integer_row p e
   is_integer_constant p t (Unary' op m e) = is_integer p t && is_integer_row p e
   is_integer_constant p t (Binary' op m a n b) =
-      is_integer p t && (takes_integers op && (is_integer_row p a && is_integer_row p b))
-  is_integer_constant p t (Logical' op m a n b) = is_integer p t && (is_integer_row p a && is_integer_row p b)
+      is_integer p t && takes_integers op && is_integer_row p a && is_integer_row p b
+  is_integer_constant p t (Logical' op m a n b) = is_integer p t && is_integer_row p a && is_integer_row p b
   is_integer_constant p t (Conditional' m c n a k b) =
-      is_integer p t && (is_integer_row p c && (is_integer_row p a && is_integer_row p b))
+      is_integer p t && is_integer_row p c && is_integer_row p a && is_integer_row p b
   is_integer_constant p t _ = false
 
   pub is_integer_row : {m : _} → Parts → Row_of-TypedExpr m → Bool
@@ -99,6 +102,21 @@ is_constant p t e = is_integer_constant p t e || (is_null_constant p t e || is_a
 -- the value of a constant; any other expression gives none
 abbrev pub constant_value : Scope → TypedExpr → Gives V.Value
 constant_value at e = if is_constant at.types e.ty e.kind then value_of at e.ty e.kind else Err BadCode
+
+-- the value for which an evaluated constant stands
+abbrev pub as_value : Constant → V.Value
+as_value (C.Int z) = V.Int z
+as_value C.Null = V.Null
+as_value (C.Start g) = V.Pointer g 0
+as_value (C.Function f) = V.Function f
+
+abbrev pub evaluated : Option Constant → Option V.Value
+evaluated None = None
+evaluated (Some c) = Some (as_value c)
+
+-- an integer as a value
+abbrev pub int_value : Gives ℤ → Gives V.Value
+int_value r = then_do r (λ z. Ok (V.Int z))
 
 abbrev pub if_ok : {A : Type 0} → Gives A → Option A
 if_ok (Ok a) = Some a

@@ -9,13 +9,17 @@ use Rattle.src_model.specs.declared.value.Value.TheOpen as V
 use Rattle.src_model.specs.declared.value.ObjectKind.TheVariants as Kind
 use Rattle.src_model.specs.declared.value.Object.{Object}
 use Rattle.src_model.specs.declared.value.Store.{Store}
+use Rattle.lu_base.specs.declared.trap.Trap.TheVariants.{BadCode}
+use Rattle.src_model.specs.declared.expr.TypedPlace.{TypedPlace}
+use Rattle.src_model.specs.declared.expr.PlaceKind.{PlaceKind, Global as Global_place}
 use Rattle.src_model.specs.declared.program.Init.{Init, Zero, One, Text, List', Row_of-Init, end_of-Init, more_of-Init}
 use Rattle.src_model.specs.declared.program.Global.{Global}
 use Rattle.src_model.specs.declared.program.Program.{Program}
 use Rattle.src_model.specs.Integers.{wrapped}
 use Rattle.src_model.specs.Paths.{Layer, zero_of}
-use Rattle.src_model.specs.Objects.{Gives}
-use Rattle.src_model.specs.Expression.{Scope, value_of}
+use Rattle.src_model.specs.Objects.{Gives, address_at}
+use Rattle.src_model.specs.Expression.{Scope, global_place}
+use Rattle.src_model.specs.Constant.{constant_value}
 
 abbrev pub elem_in : ℕ → Option Ty → ℕ
 elem_in t (Some (T.Array u n)) = u
@@ -66,11 +70,15 @@ abbrev pub byte_in : Option Ty → ℕ → ℤ
 byte_in (Some (T.Int kind)) b = wrapped kind (pos b)
 byte_in _ b = pos 0
 
+-- what f gives of each type and its item; types for which there is no item give zero
+abbrev pub spread : {A : Type 0} → Parts → (ℕ → A → Value) → List ℕ → List A → List Value
+spread p f ts [] = map (zero_of p) ts
+spread p f [] (x ∷ xs) = []
+spread p f (t ∷ ts) (x ∷ xs) = f t x ∷ spread p f ts xs
+
 -- bytes as chars of these types; those that are over are zero
 abbrev pub text_items : Parts → List ℕ → List ℕ → List Value
-text_items p [] bytes = []
-text_items p (t ∷ ts) [] = zero_of p t ∷ text_items p ts []
-text_items p (t ∷ ts) (b ∷ bytes) = Int (byte_in (slice_get p.types t) b) ∷ text_items p ts bytes
+text_items p ts bytes = spread p (λ t b. Int (byte_in (slice_get p.types t) b)) ts bytes
 
 abbrev pub or_other : Value → Gives Value → Value
 or_other other (Ok v) = v
@@ -80,7 +88,7 @@ abbrev mutual
   -- the value of type t that an initialiser gives; `at` has every global zero
   pub initial_value : Scope → ℕ → Init → Value
   initial_value at t Zero = zero_of at.types t
-  initial_value at t (One e) = or_other (zero_of at.types t) (value_of at e.ty e.kind)
+  initial_value at t (One e) = or_other (zero_of at.types t) (constant_value at e)
   initial_value at t (Text bytes) = composed at.types t (text_items at.types (item_types at.types t) bytes)
   initial_value at t (List' m inits) = composed at.types t (initial_items at (item_types at.types t) inits)
 
@@ -105,6 +113,14 @@ zero_globals p = record { objects = map (λ g. global_object p.types g.ty (zero_
 -- where initialisers are evaluated: they read no object
 abbrev pub initial_scope : Program → Scope
 initial_scope p = record { types = p.types; store = zero_globals p; locals = [] }
+
+abbrev pub start_in : Program → ℕ → PlaceKind → Gives Value
+start_in p t (Global_place g) = address_at p.types (zero_globals p) (global_place p.types t g) 0
+start_in p t _ = Err BadCode
+
+-- the address of a global that stands as a place; an array may be of no element
+abbrev pub start_of : Program → TypedPlace → Gives Value
+start_of p q = start_in p q.ty q.kind
 
 abbrev pub initial_object : Program → Global → Object
 initial_object p g = global_object p.types g.ty (initial_value (initial_scope p) g.ty g.init)

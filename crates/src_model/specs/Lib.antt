@@ -8,12 +8,12 @@ pub mod Expression
 pub mod Assignment
 pub mod Sending
 pub mod Call
+pub mod Constant
 pub mod Initial
 pub mod Delivery
 pub mod Store
 pub mod ValueBytes
 pub mod Weight
-pub mod Constant
 pub mod ValidTypes
 pub mod ValidExpression
 pub mod ValidDepth
@@ -22,3 +22,4 @@ pub mod ValidInitialiser
 pub mod ValidNumbering
 pub mod ValidNames
 pub mod Valid
+pub mod ValidSeen

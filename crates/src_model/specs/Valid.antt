@@ -1,5 +1,5 @@
 -- When a program is valid: what each program has that the rules of the language accept.
-use Rattle.std.specs.Prelude.{ℕ, ◌+◌, ◌-◌, Bool, true, false, ◌&&◌, ◌||◌, not, nat_eq, nat_lt, nat_le, IsTrue, List, [], ◌∷◌, ◌++◌, map, sum, length, Option, Some, None, codes, slice_get}
+use Rattle.std.specs.Prelude.{ℕ, ◌+◌, ◌-◌, Bool, true, false, ◌&&◌, ◌||◌, not, nat_eq, nat_lt, nat_le, IsTrue, List, [], ◌∷◌, length, Option, Some, None, codes, slice_get}
 use Rattle.std.specs.List.{list_all, list_any}
 use Rattle.std.specs.Option.{option_map_or}
 use Rattle.c_types.specs.declared.parts.IntKind.{IntKind}
@@ -19,12 +19,12 @@ use Rattle.src_model.specs.declared.program.Global as Text
 use Rattle.src_model.specs.declared.program.Site.{Site}
 use Rattle.src_model.specs.declared.program.Program.{Program}
 use Rattle.src_model.specs.Store.{has_signature}
-use Rattle.src_model.specs.ValidTypes.{ty, is_array, is_int, points_to, has_stars, is_named, is_result, signature_is_declared, greatest_params, greatest_stars, is_declared_scalar, is_declared_object}
+use Rattle.src_model.specs.ValidTypes.{ty, is_array, is_int, has_stars, is_named, is_result, signature_is_declared, greatest_params, greatest_stars, is_declared_scalar, is_declared_object}
 use Rattle.src_model.specs.ValidExpression.{Declarations}
 use Rattle.src_model.specs.ValidStatement.{are_statements}
 use Rattle.src_model.specs.ValidInitialiser.{is_start}
 use Rattle.src_model.specs.ValidNumbering.{is_numbered}
-use Rattle.src_model.specs.ValidNames.{are_names, differ, is_name, is_free, is_called, global_names}
+use Rattle.src_model.specs.ValidNames.{are_names, names_differ, is_name, is_free, is_called}
 
 -- the most structs, unions, fields of one, globals, functions and sites
 abbrev pub greatest_count : ℕ
@@ -66,11 +66,32 @@ abbrev pub is_void_pointer : Ty → Bool
 is_void_pointer T.VoidPointer = true
 is_void_pointer _ = false
 
+abbrev pub is_pointer_to : ℕ → Ty → Bool
+is_pointer_to t (T.Pointer u) = nat_eq u t
+is_pointer_to t _ = false
+
+abbrev pub has_void_pointer : Parts → Bool
+has_void_pointer p = list_any is_void_pointer p.types
+
 abbrev pub has_kind : Parts → IntKind → Bool
 has_kind p kind = list_any (is_of_kind kind) p.types
 
-abbrev pub kinds : List IntKind
-kinds = K.Char ∷ K.UChar ∷ K.Short ∷ K.UShort ∷ K.Int ∷ K.UInt ∷ K.LongLong ∷ K.ULongLong ∷ []
+-- all integer types
+abbrev pub has_kinds : Parts → Bool
+has_kinds p =
+    has_kind p K.Char
+    && (has_kind p K.UChar
+    && (has_kind p K.Short
+    && (has_kind p K.UShort && (has_kind p K.Int && (has_kind p K.UInt && (has_kind p K.LongLong && has_kind p K.ULongLong))))))
+
+abbrev pub has_struct : Parts → ℕ → Bool
+has_struct p s = list_any (is_struct s) p.types
+
+abbrev pub has_union : Parts → ℕ → Bool
+has_union p u = list_any (is_union u) p.types
+
+abbrev pub has_function_pointer : Parts → ℕ → Bool
+has_function_pointer p g = list_any (is_pointer_to_function g) p.types
 
 -- the test passes for each number from k on, one for each entry
 abbrev pub all_from : {A : Type 0} → (ℕ → Bool) → ℕ → List A → Bool
@@ -79,7 +100,7 @@ all_from test k (x ∷ xs) = test k && all_from test (k + 1) xs
 
 -- a type with fewer than nine stars has its pointer type in the table
 abbrev pub has_pointer : Parts → ℕ → Bool
-has_pointer p t = not (has_stars p greatest_stars (ty p t)) || list_any (λ u. points_to (Some u) t) p.types
+has_pointer p t = not (has_stars p greatest_stars (ty p t)) || list_any (is_pointer_to t) p.types
 
 abbrev pub is_no_array_pointer : Parts → Ty → Bool
 is_no_array_pointer p (T.Pointer t) = not (is_array (ty p t))
@@ -89,11 +110,11 @@ is_no_array_pointer p _ = true
 -- type of at most nine stars over one of these; no pointer to an array
 abbrev pub has_types : Parts → Bool
 has_types p =
-    list_all (has_kind p) kinds
-    && (all_from (λ s. list_any (is_struct s) p.types) 0 p.structs
-    && (all_from (λ u. list_any (is_union u) p.types) 0 p.unions
-    && (all_from (λ g. list_any (is_pointer_to_function g) p.types) 0 p.signatures
-    && (list_any is_void_pointer p.types
+    has_kinds p
+    && (all_from (has_struct p) 0 p.structs
+    && (all_from (has_union p) 0 p.unions
+    && (all_from (has_function_pointer p) 0 p.signatures
+    && (has_void_pointer p
     && (all_from (has_pointer p) 0 p.types && list_all (is_no_array_pointer p) p.types)))))
 
 -- ---- tags, globals, functions, sites
@@ -155,8 +176,11 @@ abbrev pub are_globals : Program → ℕ → List Text.Global → Bool
 are_globals p g [] = true
 are_globals p g (d ∷ ds) = is_global p g d && are_globals p (g + 1) ds
 
-abbrev pub globals_size : Program → ℕ
-globals_size p = sum (map (λ g. size_of POINTER_SIZE p.types g.ty) p.globals)
+-- globals fit into so many bytes together
+abbrev pub are_within : Program → ℕ → List Text.Global → Bool
+are_within p room [] = true
+are_within p room (g ∷ gs) =
+    nat_le (size_of POINTER_SIZE p.types g.ty) room && are_within p (room - size_of POINTER_SIZE p.types g.ty) gs
 
 -- the most locals of a function, its parameters among them
 abbrev pub greatest_locals : ℕ
@@ -168,6 +192,13 @@ has_few_locals f = nat_le (length f.params) greatest_params && nat_le (length f.
 abbrev pub declarations_of : Program → Function → Declarations
 declarations_of p f = record { program = p; params = f.params; locals = f.locals }
 
+-- its signature is in the table
+abbrev pub is_signature_known : Program → Function → Bool
+is_signature_known p f = list_any (has_signature f) p.types.signatures
+
+abbrev pub is_body : Program → Function → Bool
+is_body p f = are_statements (declarations_of p f) f.ret false (top - 2) f.body
+
 -- A function: the parameters stand in one construct, and the statements of its body in two
 abbrev pub is_function : Program → Function → Bool
 is_function p f =
@@ -175,8 +206,7 @@ is_function p f =
     && (has_few_locals f
     && (is_result p.types f.ret
     && (list_all (is_declared_scalar p.types (top - 1)) f.params
-    && (list_any (has_signature f) p.types.signatures
-    && are_statements (declarations_of p f) f.ret false (top - 2) f.body))))
+    && (is_signature_known p f && is_body p f))))
 
 abbrev pub is_nothing : Option ℕ → Bool
 is_nothing None = true
@@ -196,26 +226,33 @@ has_handlers p =
 
 abbrev pub has_few_entries : Program → Bool
 has_few_entries p =
-    is_few p.types.structs && (is_few p.types.unions && (is_few p.globals && (is_few p.functions && is_few p.sites)))
+    is_few p.types.structs && (is_few p.types.unions && is_few p.sites)
 
 abbrev pub are_tags : Program → Bool
 are_tags p = list_all (is_tag p) p.types.structs && list_all (is_tag p) p.types.unions
+
+abbrev pub has_valid_types : Program → Bool
+has_valid_types p =
+    has_types p.types && (are_tags p && list_all (is_signature p.types) p.types.signatures)
+
+abbrev pub has_valid_globals : Program → Bool
+has_valid_globals p =
+    is_few p.globals && (has_messages p p.globals && (are_globals p 0 p.globals && are_within p greatest p.globals))
+
+abbrev pub is_object_site : Program → Site → Bool
+is_object_site p s = is_named p.types s.elem
+
+abbrev pub has_valid_functions : Program → Bool
+has_valid_functions p =
+    is_few p.functions
+    && (list_all (is_function p) p.functions
+    && (has_handlers p && (list_all (is_object_site p) p.sites && is_numbered p.sites p.functions)))
 
 -- all but that the types are those of a table
 abbrev pub is_valid : Program → Bool
 is_valid p =
     are_names p.names
-    && (has_few_entries p
-    && (has_types p.types
-    && (are_tags p
-    && (list_all (is_signature p.types) p.types.signatures
-    && (differ (global_names p)
-    && (has_messages p p.globals
-    && (are_globals p 0 p.globals
-    && (nat_le (globals_size p) greatest
-    && (list_all (is_function p) p.functions
-    && (has_handlers p
-    && (list_all (λ s. is_named p.types s.elem) p.sites && is_numbered p.sites p.functions)))))))))))
+    && (has_few_entries p && (names_differ p.globals p.functions && (has_valid_types p && (has_valid_globals p && has_valid_functions p))))
 
 -- a valid program
 pub record IsValid (p : Program) : Type 0 where

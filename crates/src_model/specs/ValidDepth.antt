@@ -4,6 +4,7 @@
 -- `||`, 12 a `?:`. Where an expression of a looser rank stands, it takes parentheses, which open a unary and an expression.
 use Rattle.std.specs.Prelude.{ℕ, ◌-◌, Bool, true, false, ◌&&◌, nat_eq, nat_lt, if◌then◌else◌, List, [], ◌∷◌}
 use Rattle.std.specs.List.{list_all}
+use Rattle.src_model.specs.declared.valid_depth.Spot.{Spot}
 use Rattle.src_model.specs.declared.expr.BinaryOperator.{BinaryOperator}
 use Rattle.src_model.specs.declared.expr.BinaryOperator.TheVariants.{Add, Subtract, Multiply, Divide, Remainder, BitAnd, BitXor, BitOr, ShiftLeft, ShiftRight, Less, LessEqual, Greater, GreaterEqual, Equal, NotEqual, PointerAdd, AddPointer, PointerSubtract, PointerDifference}
 use Rattle.src_model.specs.declared.expr.LogicalOperator.{LogicalOperator}
@@ -44,13 +45,6 @@ binary_rank _ = 3
 abbrev pub logical_rank : LogicalOperator → ℕ
 logical_rank And = 10
 logical_rank Or = 11
-
--- where an expression stands: the loosest rank without parentheses, the room, and how many operators or steps the chain of
--- that rank may still have
-pub record Spot : Type 0 where
-  pub rank : ℕ
-  pub room : ℕ
-  pub left : ℕ
 
 abbrev pub spot : ℕ → ℕ → Spot
 spot rank room = record { rank = rank; room = room; left = greatest_chain }

@@ -17,7 +17,7 @@ use Rattle.src_model.specs.declared.expr.PlaceKind.{PlaceKind, Global, Deref', A
 use Rattle.src_model.specs.declared.program.Program.{Program}
 use Rattle.src_model.specs.Expression.{expr_type, place_type}
 use Rattle.src_model.specs.Store.{is_function}
-use Rattle.src_model.specs.ValidTypes.{ty, is_int, is_unsigned_int, is_long_long, is_wide, is_promoted, is_object_pointer, is_ordered, is_comparable, is_scalar, is_array, is_array_of, points_to, is_decayed, is_field_of, is_member_of, converts, casts, is_named}
+use Rattle.src_model.specs.ValidTypes.{ty, is_int, is_unsigned_int, is_long_long, is_wide, is_promoted, is_object_pointer, is_ordered, is_comparable, is_scalar, is_pointer, is_array, is_array_of, points_to, is_decayed, is_field_of, is_member_of, converts, casts, is_named}
 
 -- a program, and of one of its functions the types of the parameters and of the locals
 pub record Declarations : Type 0 where
@@ -115,15 +115,9 @@ abbrev pub is_zero_literal : {m : _} → Parts → Row_of-TypedExpr m → Bool
 is_zero_literal p end_of-TypedExpr = false
 is_zero_literal p (more_of-TypedExpr t kind rest) = is_int (ty p t) && is_nought kind
 
-abbrev pub is_pointer : Option Ty → Bool
-is_pointer (Some (T.Pointer t)) = true
-is_pointer (Some T.VoidPointer) = true
-is_pointer (Some (T.Function g)) = true
-is_pointer _ = false
-
--- a conversion that the text doesn't write
-abbrev pub convert_fits : {m : _} → Parts → ℕ → Row_of-TypedExpr m → Bool
-convert_fits p t e = converts (ty p (expr_type e)) (ty p t) || (is_pointer (ty p t) && is_zero_literal p e)
+-- a conversion of the type a that the text doesn't write; the literal 0 converts to any pointer
+abbrev pub convert_fits : Parts → ℕ → ℕ → Bool → Bool
+convert_fits p t a is_zero = converts (ty p a) (ty p t) || (is_pointer (ty p t) && is_zero)
 
 abbrev mutual
   -- a place that isn't inside a union
@@ -137,6 +131,30 @@ abbrev mutual
   is_outside_row end_of-TypedPlace = false
   is_outside_row (more_of-TypedPlace t kind rest) = is_outside kind
 
+abbrev pub logical_fits : Parts → ℕ → ℕ → ℕ → Bool
+logical_fits p t a b = is_int (ty p t) && (is_scalar (ty p a) && is_scalar (ty p b))
+
+abbrev pub cast_fits : Parts → ℕ → ℕ → Bool
+cast_fits p t a = casts (ty p a) (ty p t) && is_named p t
+
+-- what stands at a place of type a, which is no array
+abbrev pub load_fits : Parts → ℕ → ℕ → Bool
+load_fits p t a = nat_eq a t && not (is_array (ty p t))
+
+-- a pointer to a place of type a, which is no array
+abbrev pub address_fits : Parts → ℕ → ℕ → Bool
+address_fits p t a = points_to (ty p t) a && not (is_array (ty p a))
+
+abbrev pub decay_fits : Parts → ℕ → ℕ → Bool
+decay_fits p t a = is_decayed (ty p a) (ty p t)
+
+-- `p[i]` of a pointer, and `a[i]` of an array
+abbrev pub item_fits : Parts → ℕ → ℕ → ℕ → Bool
+item_fits p t pointer index = points_to (ty p pointer) t && is_long_long (ty p index)
+
+abbrev pub element_fits : Parts → ℕ → ℕ → ℕ → Bool
+element_fits p t array index = is_array_of (ty p array) t && is_long_long (ty p index)
+
 abbrev mutual
   -- an expression of type t
   pub is_expr : Declarations → ℕ → ExprKind → Bool
@@ -144,19 +162,16 @@ abbrev mutual
   is_expr at t (SizeOf u) = is_unsigned_int (ty at.program.types t) && is_named at.program.types u
   is_expr at t (Local x) = option_map_or (nat_eq t) (local_type at x) false
   is_expr at t (Function_name f) = is_function_name at.program (ty at.program.types t) f
-  is_expr at t (Load' m e) = is_place_row at e && (nat_eq (place_type e) t && not (is_array (ty at.program.types t)))
-  is_expr at t (AddressOf' m e) =
-      is_place_row at e && (is_outside_row e && (points_to (ty at.program.types t) (place_type e) && not (is_array (ty at.program.types (place_type e)))))
-  is_expr at t (Decay' m e) =
-      is_place_row at e && (is_outside_row e && is_decayed (ty at.program.types (place_type e)) (ty at.program.types t))
-  is_expr at t (Cast' m e) =
-      is_expr_row at e && (casts (ty at.program.types (expr_type e)) (ty at.program.types t) && is_named at.program.types t)
-  is_expr at t (Convert' m e) = is_expr_row at e && convert_fits at.program.types t e
+  is_expr at t (Load' m e) = is_place_row at e && load_fits at.program.types t (place_type e)
+  is_expr at t (AddressOf' m e) = is_place_row at e && (is_outside_row e && address_fits at.program.types t (place_type e))
+  is_expr at t (Decay' m e) = is_place_row at e && (is_outside_row e && decay_fits at.program.types t (place_type e))
+  is_expr at t (Cast' m e) = is_expr_row at e && cast_fits at.program.types t (expr_type e)
+  is_expr at t (Convert' m e) = is_expr_row at e && convert_fits at.program.types t (expr_type e) (is_zero_literal at.program.types e)
   is_expr at t (Unary' op m e) = is_expr_row at e && unary_fits at.program.types t op (expr_type e)
   is_expr at t (Binary' op m a n b) =
       is_expr_row at a && (is_expr_row at b && binary_fits at.program.types t op (expr_type a) (expr_type b))
   is_expr at t (Logical' op m a n b) =
-      is_expr_row at a && (is_expr_row at b && (is_int (ty at.program.types t) && (is_scalar (ty at.program.types (expr_type a)) && is_scalar (ty at.program.types (expr_type b)))))
+      is_expr_row at a && (is_expr_row at b && logical_fits at.program.types t (expr_type a) (expr_type b))
   is_expr at t (Conditional' m c n a k b) =
       is_expr_row at c && (is_expr_row at a && (is_expr_row at b && conditional_fits at.program.types t (expr_type c) (expr_type a) (expr_type b)))
 
@@ -170,9 +185,9 @@ abbrev mutual
   is_place at t (Deref' m e) = is_expr_row at e && points_to (ty at.program.types (expr_type e)) t
   is_place at t (Arrow' m e) = is_expr_row at e && points_to (ty at.program.types (expr_type e)) t
   is_place at t (Item' m p n i) =
-      is_expr_row at p && (is_expr_row at i && (points_to (ty at.program.types (expr_type p)) t && is_long_long (ty at.program.types (expr_type i))))
+      is_expr_row at p && (is_expr_row at i && item_fits at.program.types t (expr_type p) (expr_type i))
   is_place at t (Element' m a n i) =
-      is_place_row at a && (is_expr_row at i && (is_array_of (ty at.program.types (place_type a)) t && is_long_long (ty at.program.types (expr_type i))))
+      is_place_row at a && (is_expr_row at i && element_fits at.program.types t (place_type a) (expr_type i))
   is_place at t (Field' m e k) = is_place_row at e && is_field_of at.program.types (ty at.program.types (place_type e)) k t
   is_place at t (Member' m e k) = is_place_row at e && is_member_of at.program.types (ty at.program.types (place_type e)) k t
 

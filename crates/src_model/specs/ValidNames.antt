@@ -4,7 +4,8 @@ use Rattle.std.specs.Char.{is_ascii_alphabetic, is_ascii_alphanumeric}
 use Rattle.std.specs.List.{list_all, list_any}
 use Rattle.std.specs.Option.{option_map_or}
 use Rattle.src_model.specs.declared.valid_names.TheConstants.{KEYWORDS, BUILT_INS}
-use Rattle.src_model.specs.declared.program.Program.{Program}
+use Rattle.src_model.specs.declared.program.Global.{Global}
+use Rattle.src_model.specs.declared.program.Function.{Function}
 
 abbrev pub Text : Type 0
 Text = List ℕ
@@ -31,10 +32,6 @@ abbrev pub are_distinct : List Text → Bool
 are_distinct [] = true
 are_distinct (x ∷ xs) = not (list_any (bytes_eq x) xs) && are_distinct xs
 
-abbrev pub differ : List ℕ → Bool
-differ [] = true
-differ (x ∷ xs) = not (list_any (nat_eq x) xs) && differ xs
-
 -- distinct identifiers, fewer than 4,294,967,295
 abbrev pub are_names : List Text → Bool
 are_names names = nat_lt (length names) (2 ^ 32 - 1) && (list_all is_identifier names && are_distinct names)
@@ -51,9 +48,22 @@ is_called names n word = option_map_or (bytes_eq word) (slice_get names n) false
 abbrev pub is_built_in : List Text → ℕ → Bool
 is_built_in names n = list_any (λ w. is_called names n w.now) BUILT_INS
 
--- the names of the globals and of the functions are one space
-abbrev pub global_names : Program → List ℕ
-global_names p = map (λ g. g.name) p.globals ++ map (λ f. f.name) p.functions
+-- no two globals have one name
+abbrev pub globals_differ : List Global → Bool
+globals_differ [] = true
+globals_differ (g ∷ gs) = not (list_any (λ h. nat_eq g.name h.name) gs) && globals_differ gs
+
+-- no two functions have one name
+abbrev pub functions_differ : List Function → Bool
+functions_differ [] = true
+functions_differ (f ∷ fs) = not (list_any (λ h. nat_eq f.name h.name) fs) && functions_differ fs
+
+abbrev pub is_no_function : List Function → Global → Bool
+is_no_function fs g = not (list_any (λ f. nat_eq g.name f.name) fs)
+
+-- globals and functions have names of one space
+abbrev pub names_differ : List Global → List Function → Bool
+names_differ gs fs = globals_differ gs && (functions_differ fs && list_all (is_no_function fs) gs)
 
 abbrev pub is_free : List Text → ℕ → Bool
 is_free names n = is_name names n && not (is_built_in names n)

@@ -1,12 +1,14 @@
 -- The locals that statements declare and the sites at which they allocate, in the order of the text.
-use Rattle.std.specs.Prelude.{ℕ, ◌+◌, Bool, true, false, ◌&&◌, ◌||◌, nat_eq, if◌then◌else◌, List, [], ◌∷◌, ◌++◌, length, Option, Some, None, slice_get}
+use Rattle.std.specs.Prelude.{ℕ, ◌+◌, Bool, true, false, ◌&&◌, ◌||◌, nat_eq, nat_lt, count_by, if◌then◌else◌, List, [], ◌∷◌, ◌++◌, length, Option, Some, None, slice_get}
 use Rattle.std.specs.Option.{option_map_or}
+use Rattle.std.specs.List.{list_all}
 use Rattle.lu_spec.specs.Then.{then_option}
 use Rattle.src_model.specs.declared.stmt.Callee.{Callee}
 use Rattle.src_model.specs.declared.stmt.Callee.TheVariants.{Malloc, Calloc}
 use Rattle.src_model.specs.declared.stmt.Rhs.{Rhs}
 use Rattle.src_model.specs.declared.stmt.Rhs.TheVariants.{Value as Plain, Call as Result_of}
 use Rattle.src_model.specs.declared.stmt.TypedStmt.{TypedStmt, Block', Empty, Declare, SetLocal, Assign, Call, If', While', For', Break, Continue, Return, Row_of-TypedStmt, end_of-TypedStmt, more_of-TypedStmt}
+use Rattle.src_model.specs.declared.valid_numbering.Next.{Next}
 use Rattle.src_model.specs.declared.program.Site.{Site}
 use Rattle.src_model.specs.declared.program.Function.{Function}
 
@@ -49,11 +51,6 @@ abbrev pub body_marks : List TypedStmt → List Mark
 body_marks [] = []
 body_marks (x ∷ rest) = marks x ++ body_marks rest
 
--- the next numbers in a function: of a local, and of a site among its own
-pub record Next : Type 0 where
-  pub local : ℕ
-  pub ordinal : ℕ
-
 -- the site has that function and that number in it
 abbrev pub is_site : ℕ → ℕ → Site → Bool
 is_site f ordinal d = nat_eq d.function f && nat_eq d.ordinal ordinal
@@ -63,29 +60,35 @@ is_site_of sites f ordinal k = option_map_or (is_site f ordinal) (slice_get site
 
 -- what comes next after this mark in function f, if the mark has the next number
 abbrev pub after_mark : List Site → ℕ → Next → Mark → Option Next
-after_mark sites f n (local x) =
-    if nat_eq x n.local then Some (record { local = n.local + 1; ordinal = n.ordinal }) else None
+after_mark sites f n (local x) = if nat_eq x n.local then Some (record { local = x + 1; ordinal = n.ordinal }) else None
 after_mark sites f n (site k) =
     if is_site_of sites f n.ordinal k then Some (record { local = n.local; ordinal = n.ordinal + 1 }) else None
 
-abbrev pub after_marks : List Site → ℕ → Next → List Mark → Option Next
-after_marks sites f n [] = Some n
-after_marks sites f n (m ∷ ms) = then_option (after_mark sites f n m) (λ next. after_marks sites f next ms)
+abbrev pub after_marks : List Site → ℕ → Option Next → List Mark → Option Next
+after_marks sites f n [] = n
+after_marks sites f n (m ∷ ms) = after_marks sites f (then_option n (λ next. after_mark sites f next m)) ms
 
-abbrev pub ordinal_at : ℕ → Next → Option ℕ
-ordinal_at locals n = if nat_eq n.local locals then Some n.ordinal else None
+-- what comes next at the start of a function with so many parameters
+abbrev pub first_of : ℕ → Next
+first_of params = record { local = params; ordinal = 0 }
 
--- The number of the sites of function f. Its body declares each local once and has these sites, both by their numbers and in the
--- order of the text; else there is none
-abbrev pub sites_of : List Site → ℕ → Function → Option ℕ
-sites_of sites f d =
-    then_option (after_marks sites f (record { local = length d.params; ordinal = 0 }) (body_marks d.body)) (ordinal_at (length d.params + length d.locals))
+-- what comes next after the body of function f
+abbrev pub after_body : List Site → ℕ → Function → Option Next
+after_body sites f d = after_marks sites f (Some (first_of (length d.params))) (body_marks d.body)
 
--- the number of the sites of functions, the first of which has number f
-abbrev pub sites_in : List Site → ℕ → List Function → Option ℕ
-sites_in sites f [] = Some 0
-sites_in sites f (d ∷ ds) =
-    then_option (sites_of sites f d) (λ n. then_option (sites_in sites (f + 1) ds) (λ rest. Some (n + rest)))
+-- all locals were declared, and the function has no site but those that were met
+abbrev pub ends_at : List Site → ℕ → Function → Next → Bool
+ends_at sites f d n =
+    nat_eq n.local (length d.params + length d.locals) && nat_eq (count_by (λ s. nat_eq s.function f) sites) n.ordinal
+
+-- The body of function f declares each local once and has each of the function's sites once, both by their numbers and
+-- in the order of the text
+abbrev pub is_function_numbered : List Site → ℕ → Function → Bool
+is_function_numbered sites f d = option_map_or (ends_at sites f d) (after_body sites f d) false
+
+abbrev pub are_functions_numbered : List Site → ℕ → List Function → Bool
+are_functions_numbered sites f [] = true
+are_functions_numbered sites f (d ∷ ds) = is_function_numbered sites f d && are_functions_numbered sites (f + 1) ds
 
 -- the sites of one function stand together, in the order of their numbers in it
 abbrev pub follows : Option Site → Site → Bool
@@ -99,4 +102,4 @@ are_in_order before (d ∷ ds) = follows before d && are_in_order (Some d) ds
 -- each local is declared once, and each site stands in one place of the text
 abbrev pub is_numbered : List Site → List Function → Bool
 is_numbered sites functions =
-    are_in_order None sites && option_map_or (nat_eq (length sites)) (sites_in sites 0 functions) false
+    are_in_order None sites && (list_all (λ s. nat_lt s.function (length functions)) sites && are_functions_numbered sites 0 functions)

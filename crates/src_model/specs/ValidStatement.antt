@@ -1,6 +1,7 @@
 -- Calls and statements as the rules ask for them, with their depth.
 use Rattle.std.specs.Prelude.{ℕ, ◌+◌, ◌-◌, Bool, true, false, ◌&&◌, ◌||◌, not, nat_eq, nat_lt, List, [], ◌∷◌, length, Option, Some, None, slice_get}
 use Rattle.std.specs.Option.{option_map_or}
+use Rattle.std.specs.List.{list_all}
 use Rattle.c_types.specs.declared.parts.Signature.{Signature}
 use Rattle.c_types.specs.declared.parts.Ty.{Ty}
 use Rattle.c_types.specs.declared.parts.Ty.TheVariants as T
@@ -54,13 +55,17 @@ are_pointer_arguments at room t es = option_map_or (λ ts. are_arguments at room
 abbrev pub names_site : Program → ℕ → Bool
 names_site p site = nat_lt site (length p.sites)
 
+-- a callee that is a value, at a place with this room
+abbrev pub is_callee : Declarations → ℕ → TypedExpr → Bool
+is_callee at here e = is_expr at e.ty e.kind && keeps_bounds (spot postfix_rank here) e.kind
+
 -- A call: `here` is the room at the callee, and `room` that of the arguments' parenthesis. An allocation's `sizeof` is
 -- its last argument
 abbrev pub is_call_of : Declarations → ℕ → ℕ → Callee → List TypedExpr → Bool
 is_call_of at here room (Named f) es =
     nat_lt 1 here && option_map_or (λ d. are_arguments at room d.params es) (slice_get at.program.functions f) false
 is_call_of at here room (Pointer e) es =
-    is_expr at e.ty e.kind && (keeps_bounds (spot postfix_rank here) e.kind && are_pointer_arguments at room (ty at.program.types e.ty) es)
+    is_callee at here e && are_pointer_arguments at room (ty at.program.types e.ty) es
 is_call_of at here room Send es = nat_lt 1 here && is_only_argument at room is_int es
 is_call_of at here room (Malloc site) es = nat_lt 2 room && (names_site at.program site && is_empty es)
 is_call_of at here room (Calloc site) es =
@@ -140,9 +145,13 @@ is_optional_simple end_of-TypedStmt = true
 is_optional_simple (more_of-TypedStmt x end_of-TypedStmt) = is_simple x
 is_optional_simple _ = false
 
+-- a condition in a statement with this room
+abbrev pub is_test : Declarations → ℕ → TypedExpr → Bool
+is_test at room e = is_condition at e && has_depth room e
+
 abbrev pub is_loop_condition : Declarations → ℕ → Option TypedExpr → Bool
 is_loop_condition at room None = true
-is_loop_condition at room (Some e) = is_condition at e && has_depth room e
+is_loop_condition at room (Some e) = is_test at room e
 
 abbrev mutual
   -- a statement with this room in a function with this result, inside a loop or not
@@ -156,9 +165,9 @@ abbrev mutual
       is_target at to && (place_keeps_bounds (spot unary_rank room) to.kind && is_right_side at room to.ty r)
   is_statement at ret in_loop room (Call c) = is_call at room room c && not (is_allocation c.callee)
   is_statement at ret in_loop room (If' e m a n b) =
-      is_condition at e && (has_depth room e && (are_row at ret in_loop (room - 1) a && (is_optional b && are_row at ret in_loop (room - 1) b)))
+      is_test at room e && (are_row at ret in_loop (room - 1) a && (is_optional b && are_row at ret in_loop (room - 1) b))
   is_statement at ret in_loop room (While' e m body) =
-      is_condition at e && (has_depth room e && are_row at ret true (room - 1) body)
+      is_test at room e && are_row at ret true (room - 1) body
   is_statement at ret in_loop room (For' m first e n step k body) =
       is_optional_simple first && (are_row at ret in_loop room first && (is_loop_condition at room e && (is_optional_simple step && (are_row at ret in_loop room step && are_row at ret true (room - 1) body))))
   is_statement at ret in_loop room Break = in_loop && nat_lt 0 room
@@ -171,6 +180,15 @@ abbrev mutual
       is_statement at ret in_loop room x && are_row at ret in_loop room rest
 
 abbrev pub are_statements : Declarations → Option ℕ → Bool → ℕ → List TypedStmt → Bool
-are_statements at ret in_loop room [] = true
-are_statements at ret in_loop room (x ∷ rest) =
-    is_statement at ret in_loop room x && are_statements at ret in_loop room rest
+are_statements at ret in_loop room = list_all (is_statement at ret in_loop room)
+
+-- at most one statement, as a list
+abbrev pub are_optional : List TypedStmt → Bool
+are_optional [] = true
+are_optional (x ∷ []) = true
+are_optional _ = false
+
+abbrev pub are_optional_simple : List TypedStmt → Bool
+are_optional_simple [] = true
+are_optional_simple (x ∷ []) = is_simple x
+are_optional_simple _ = false

@@ -72,6 +72,12 @@ is_comparable t = is_ordered t || is_function_pointer t
 abbrev pub is_scalar : Option Ty → Bool
 is_scalar t = is_integer t || is_comparable t
 
+abbrev pub is_pointer : Option Ty → Bool
+is_pointer (Some (T.Pointer t)) = true
+is_pointer (Some T.VoidPointer) = true
+is_pointer (Some (T.Function g)) = true
+is_pointer _ = false
+
 -- a pointer to the type t
 abbrev pub points_to : Option Ty → ℕ → Bool
 points_to (Some (T.Pointer u)) t = nat_eq u t

@@ -4,14 +4,28 @@
 //! `Store` says which stores are a program's, and `ValueBytes` lays values out as bytes.
 #![tactic(auto)]
 
+pub mod constant;
 mod copy;
 mod copy_expr;
 mod copy_stmt;
 pub mod expr;
 pub mod first;
+mod initial;
+mod integers;
 pub mod program;
 pub mod stmt;
 #[cfg(test)]
 mod tests;
+mod valid;
+mod valid_depth;
+mod valid_expr;
+mod valid_fits;
+mod valid_init;
 mod valid_names;
+mod valid_numbering;
+mod valid_stmt;
+mod valid_table;
+mod valid_types;
 pub mod value;
+
+pub use initial::initial_store;

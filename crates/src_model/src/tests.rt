@@ -1,7 +1,10 @@
 use crate::expr::{ExprKind, TypedExpr};
+use crate::initial_store;
 use crate::program::{Function, Global as GlobalVariable, Init, Program, Site};
 use crate::stmt::{Rhs, TypedStmt};
-use c_types::{IntKind, Parts, Sequence, Ty, TypeTable, well_numbered};
+use c_types::{
+    FieldDef, IntKind, Parts, Sequence, Signature, TagDef, Ty, TypeTable, well_numbered,
+};
 use lu_base::{Bytes8, Name};
 use sqlite_items::Items;
 use std::alloc::Global;
@@ -64,5 +67,122 @@ fn a_program_is_copied(rt: HostRuntime) -> Result<(), Fail> {
     assert_eq!(rt; copy.globals.len(), 1);
     assert_eq!(rt; copy.functions.len(), 1);
     assert_eq!(rt; copy.sites.len(), 1);
+    Ok(())
+}
+
+// The types of a program with `struct message` alone: each integer type, the struct, `void (*)(void)`, int[6], and the
+// pointers of at most nine stars over these and over void.
+fn types_of_messages(alloc: Global) -> Result<TypeTable, Fail> {
+    let mut types = vec![in alloc;
+        Ty::Int(IntKind::Int),
+        Ty::Int(IntKind::Char),
+        Ty::Int(IntKind::UChar),
+        Ty::Int(IntKind::Short),
+        Ty::Int(IntKind::UShort),
+        Ty::Int(IntKind::UInt),
+        Ty::Int(IntKind::LongLong),
+        Ty::Int(IntKind::ULongLong),
+        Ty::Struct(0),
+        Ty::Function(0),
+        Ty::VoidPointer,
+        Ty::Array(0, 6),
+    ]?;
+    for base in 0..11u32 {
+        let mut to = base;
+        for _ in 0..if base == 10 { 8 } else { 9 } {
+            types.push(Ty::Pointer(to))?;
+            to = (types.len() - 1) as u32;
+        }
+    }
+    let fields = vec![in alloc;
+        FieldDef { name: 3, ty: 0 },
+        FieldDef { name: 4, ty: 0 },
+        FieldDef { name: 5, ty: 11 },
+    ]?;
+    let message = TagDef {
+        tag: 2,
+        fields: Sequence::from_vec(fields),
+    };
+    let handler = Signature {
+        result: None,
+        params: Sequence::from_vec(Vec::new(alloc)),
+    };
+    let parts = Parts {
+        types: Sequence::from_vec(types),
+        structs: Sequence::from_vec(vec![in alloc; message]?),
+        unions: Sequence::from_vec(Vec::new(alloc)),
+        signatures: Sequence::from_vec(vec![in alloc; handler]?),
+    };
+    if !well_numbered(&parts) {
+        return Err("not well numbered".into());
+    }
+    Ok(TypeTable::build(alloc, parts).ok().ok_or("refused")?)
+}
+
+fn handler(alloc: Global, name: u32, body: Items<TypedStmt>) -> Function {
+    Function {
+        name,
+        params: Items::new(alloc),
+        ret: None,
+        locals: Items::new(alloc),
+        body,
+    }
+}
+
+// `m_in`, `m_out`, an empty `init`, and an `on_message` with this statement and this name's spelling.
+fn with_statement(alloc: Global, word: &[u8], statement: TypedStmt) -> Result<Program, Fail> {
+    let mut names = Items::new(alloc);
+    let words: [&[u8]; 7] = [
+        b"m_in", b"m_out", b"message", b"source", b"type", b"arg", b"init",
+    ];
+    for known in words {
+        names.push(Name::from_ascii(alloc, known)?)?;
+    }
+    names.push(Name::from_ascii(alloc, word)?)?;
+    let mut globals = Items::new(alloc);
+    for name in 0..2 {
+        globals.push(GlobalVariable {
+            name,
+            ty: 8,
+            init: Init::Zero,
+        })?;
+    }
+    let mut body = Items::new(alloc);
+    body.push(statement)?;
+    let mut functions = Items::new(alloc);
+    functions.push(handler(alloc, 6, Items::new(alloc)))?;
+    functions.push(handler(alloc, 7, body))?;
+    Ok(Program {
+        names,
+        types: types_of_messages(alloc)?,
+        globals,
+        functions,
+        sites: Items::new(alloc),
+    })
+}
+
+#[test]
+fn programs_are_valid_or_have_a_flaw(rt: HostRuntime) -> Result<(), Fail> {
+    let alloc = rt.alloc();
+    let handler: &[u8] = b"on_message";
+    assert!(rt; with_statement(alloc, handler, TypedStmt::Empty)?.valid());
+    assert!(rt; with_statement(alloc, handler, TypedStmt::Return(None))?.valid());
+    assert!(rt; !with_statement(alloc, handler, TypedStmt::Break)?.valid());
+    assert!(rt; !with_statement(alloc, b"m_in", TypedStmt::Empty)?.valid());
+    assert!(rt; !with_statement(alloc, b"int", TypedStmt::Empty)?.valid());
+    assert!(rt; !sample(alloc)?.valid());
+    Ok(())
+}
+
+#[test]
+fn the_store_at_the_start_has_each_global(rt: HostRuntime) -> Result<(), Fail> {
+    let alloc = rt.alloc();
+    let program = with_statement(alloc, b"on_message", TypedStmt::Empty)?;
+    let store = initial_store(alloc, &program)?;
+    assert_eq!(rt; store.objects.len(), 2);
+    for object in store.objects.as_slice() {
+        assert!(rt; object.elements.is_some());
+        assert_eq!(rt; object.count, 1);
+    }
     Ok(())
 }

@@ -1,0 +1,8 @@
+pub mod Rules
+pub mod Names
+pub mod Denoted
+pub mod Places
+pub mod Operations
+pub mod Typing
+pub mod Uses
+pub mod Calls

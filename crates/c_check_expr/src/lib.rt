@@ -1,0 +1,18 @@
+//! The typing of expressions of the C subset in a scope: what an expression denotes, or the least code of the rules
+//! that it breaks.
+#![tactic(auto)]
+
+pub mod calls;
+pub mod checked;
+pub mod denoted;
+pub mod error;
+pub mod names;
+pub mod operators;
+pub mod places;
+pub mod rule;
+pub mod scope;
+#[cfg(test)]
+mod tests;
+pub mod typing;
+pub mod uses;
+pub mod values;

@@ -1,0 +1,11 @@
+use Rattle.std.proofs.Common.{◌≡◌, ◌+◌, length}
+use Rattle.src_model.specs.Valid as spec
+use Rattle.src_model.proofs.valid_table.has_unions.Given as goal
+
+abbrev pub invariant-loop-rest : goal.invariant-loop-rest
+invariant-loop-rest l =
+    (l.number + length l.rest ≡ length l.parts.unions)
+    × (spec.all_from (spec.has_union l.parts) l.number l.rest ≡ spec.all_from (spec.has_union l.parts) 0 l.parts.unions)
+
+abbrev pub decreases-loop-rest : goal.decreases-loop-rest
+decreases-loop-rest l = length l.rest

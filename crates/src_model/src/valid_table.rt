@@ -1,0 +1,244 @@
+// What a valid program's table of types holds.
+
+ghost use Rattle.std.specs.Prelude.{◌≡◌};
+ghost use Rattle.std.specs.List.{list_all, list_any};
+ghost use Rattle.src_model.specs.ValidTypes.{ty};
+ghost use Rattle.src_model.specs.Valid as spec;
+
+use crate::valid_types::{has_stars, is_array};
+use c_types::{IntKind, Parts, Ty};
+
+/// The most stars over a type whose pointer type the table holds.
+const GREATEST_STARS: u32 = 8;
+
+fn same_kind(a: IntKind, b: IntKind) -> bool
+    ensures { result ≡ spec.same_kind a b }
+{
+    match (a, b) {
+        (IntKind::Char, IntKind::Char) | (IntKind::UChar, IntKind::UChar) => true,
+        (IntKind::Short, IntKind::Short) | (IntKind::UShort, IntKind::UShort) => true,
+        (IntKind::Int, IntKind::Int) | (IntKind::UInt, IntKind::UInt) => true,
+        (IntKind::LongLong, IntKind::LongLong) => true,
+        (IntKind::ULongLong, IntKind::ULongLong) => true,
+        _ => false,
+    }
+}
+
+fn is_of_kind(kind: IntKind, ty: &Ty) -> bool
+    ensures { result ≡ spec.is_of_kind kind ty.now }
+{
+    match ty {
+        Ty::Int(known) => same_kind(*known, kind),
+        _ => false,
+    }
+}
+
+fn is_struct(number: u64, ty: &Ty) -> bool
+    ensures { result ≡ spec.is_struct number ty.now }
+{
+    match ty {
+        Ty::Struct(known) => u64::from(*known) == number,
+        _ => false,
+    }
+}
+
+fn is_union(number: u64, ty: &Ty) -> bool
+    ensures { result ≡ spec.is_union number ty.now }
+{
+    match ty {
+        Ty::Union(known) => u64::from(*known) == number,
+        _ => false,
+    }
+}
+
+fn is_pointer_to_function(number: u64, ty: &Ty) -> bool
+    ensures { result ≡ spec.is_pointer_to_function number ty.now }
+{
+    match ty {
+        Ty::Function(known) => u64::from(*known) == number,
+        _ => false,
+    }
+}
+
+fn is_void_pointer(ty: &Ty) -> bool
+    ensures { result ≡ spec.is_void_pointer ty.now }
+{
+    matches!(ty, Ty::VoidPointer)
+}
+
+fn is_pointer_to(number: u64, ty: &Ty) -> bool
+    ensures { result ≡ spec.is_pointer_to number ty.now }
+{
+    match ty {
+        Ty::Pointer(known) => u64::from(*known) == number,
+        _ => false,
+    }
+}
+
+fn has_kind(parts: &Parts, kind: IntKind) -> bool
+    ensures { result ≡ spec.has_kind parts.now kind }
+{
+    parts.types.as_slice().iter().any(|ty| is_of_kind(kind, ty))
+}
+
+fn has_kinds(parts: &Parts) -> bool
+    ensures { result ≡ spec.has_kinds parts.now }
+{
+    has_kind(parts, IntKind::Char)
+        && has_kind(parts, IntKind::UChar)
+        && has_kind(parts, IntKind::Short)
+        && has_kind(parts, IntKind::UShort)
+        && has_kind(parts, IntKind::Int)
+        && has_kind(parts, IntKind::UInt)
+        && has_kind(parts, IntKind::LongLong)
+        && has_kind(parts, IntKind::ULongLong)
+}
+
+fn has_struct(parts: &Parts, number: u64) -> bool
+    ensures { result ≡ spec.has_struct parts.now number }
+{
+    parts
+        .types
+        .as_slice()
+        .iter()
+        .any(|ty| is_struct(number, ty))
+}
+
+fn has_union(parts: &Parts, number: u64) -> bool
+    ensures { result ≡ spec.has_union parts.now number }
+{
+    parts.types.as_slice().iter().any(|ty| is_union(number, ty))
+}
+
+fn has_function_pointer(parts: &Parts, number: u64) -> bool
+    ensures { result ≡ spec.has_function_pointer parts.now number }
+{
+    parts
+        .types
+        .as_slice()
+        .iter()
+        .any(|ty| is_pointer_to_function(number, ty))
+}
+
+fn has_void_pointer(parts: &Parts) -> bool
+    ensures { result ≡ spec.has_void_pointer parts.now }
+{
+    parts.types.as_slice().iter().any(|ty| is_void_pointer(ty))
+}
+
+fn find(parts: &Parts, number: u64) -> Option<Ty>
+    ensures { result ≡ ty parts.now number }
+{
+    match parts.types.as_slice().get(number as usize) {
+        None => None,
+        Some(ty) => Some(*ty),
+    }
+}
+
+fn has_pointer_to(parts: &Parts, number: u64) -> bool
+    ensures { result ≡ list_any (spec.is_pointer_to number) parts.now.types }
+{
+    parts
+        .types
+        .as_slice()
+        .iter()
+        .any(|ty| is_pointer_to(number, ty))
+}
+
+fn has_pointer(parts: &Parts, number: u64) -> bool
+    ensures { result ≡ spec.has_pointer parts.now number }
+{
+    !has_stars(parts, GREATEST_STARS, find(parts, number)) || has_pointer_to(parts, number)
+}
+
+fn is_no_array_pointer(parts: &Parts, ty: &Ty) -> bool
+    ensures { result ≡ spec.is_no_array_pointer parts.now ty.now }
+{
+    match ty {
+        Ty::Pointer(to) => !is_array(parts.find_type(*to)),
+        _ => true,
+    }
+}
+
+fn has_structs(parts: &Parts) -> bool
+    ensures { result ≡ spec.all_from (spec.has_struct parts.now) 0 parts.now.structs }
+{
+    let mut rest = parts.structs.as_slice();
+    let mut number = 0u64;
+    while let [_, others @ ..] = rest {
+        if !has_struct(parts, number) {
+            return false;
+        }
+        rest = others;
+        number += 1;
+    }
+    true
+}
+
+fn has_unions(parts: &Parts) -> bool
+    ensures { result ≡ spec.all_from (spec.has_union parts.now) 0 parts.now.unions }
+{
+    let mut rest = parts.unions.as_slice();
+    let mut number = 0u64;
+    while let [_, others @ ..] = rest {
+        if !has_union(parts, number) {
+            return false;
+        }
+        rest = others;
+        number += 1;
+    }
+    true
+}
+
+fn has_function_pointers(parts: &Parts) -> bool
+    ensures { result ≡ spec.all_from (spec.has_function_pointer parts.now) 0 parts.now.signatures }
+{
+    let mut rest = parts.signatures.as_slice();
+    let mut number = 0u64;
+    while let [_, others @ ..] = rest {
+        if !has_function_pointer(parts, number) {
+            return false;
+        }
+        rest = others;
+        number += 1;
+    }
+    true
+}
+
+fn has_pointers(parts: &Parts) -> bool
+    ensures { result ≡ spec.all_from (spec.has_pointer parts.now) 0 parts.now.types }
+{
+    let mut rest = parts.types.as_slice();
+    let mut number = 0u64;
+    while let [_, others @ ..] = rest {
+        if !has_pointer(parts, number) {
+            return false;
+        }
+        rest = others;
+        number += 1;
+    }
+    true
+}
+
+fn has_no_array_pointer(parts: &Parts) -> bool
+    ensures { result ≡ list_all (spec.is_no_array_pointer parts.now) parts.now.types }
+{
+    parts
+        .types
+        .as_slice()
+        .iter()
+        .all(|ty| is_no_array_pointer(parts, ty))
+}
+
+/// Whether the table holds the types that each program has.
+pub fn has_types(parts: &Parts) -> bool
+    ensures { result ≡ spec.has_types parts.now }
+{
+    has_kinds(parts)
+        && has_structs(parts)
+        && has_unions(parts)
+        && has_function_pointers(parts)
+        && has_void_pointer(parts)
+        && has_pointers(parts)
+        && has_no_array_pointer(parts)
+}
