@@ -1,5 +1,7 @@
 pub mod Finding
 pub mod Steps
 pub mod SitesAre
+pub mod Exits
+pub mod TagsAre
 pub mod Whole
 pub mod Valid

@@ -16,7 +16,6 @@ use Rattle.lu_image.specs.Pairing.{of_table, tag_pair, part_pairs, struct_pair, 
 use Rattle.lu_image.specs.RenameRefusal.{tag_refusal, part_refusal, or_else, struct_refusal, field_refusal, union_refusal, member_refusal, unless_refused}
 use Rattle.lu_pair.specs.declared.paired.TagTask.{TagTask}
 use Rattle.lu_pair.specs.declared.paired.TagPairs.{TagPairs}
-use Rattle.lu_pair.specs.Refusing.{IsErrorOf, IsPairedBy}
 use Rattle.lu_pair.specs.Tags.{HaveFewParts, IsStructTask, IsUnionTask, ArePaired, task_pair, task_refusal}
 
 pub if-ok : {A E : Type 0} (r : Result A E) (P Q : A → Type 0) → ((a : A) → P a → Q a) → IfOk r P → IfOk r Q
@@ -66,9 +65,3 @@ module _ (old new : Program) (rs : List Rename) (t : TagTask) where
 
     pub members-are : (pairs : TagPairs) → ArePaired t pairs → pairs.parts.items ≡ member_pairs old new rs
     members-are pairs p = p.parts ∙ (λ i. map (part_pairs (of_table (h.parts i) (h.renames_are i)) (h.old_texts i) (h.new_texts i) (h.new_are i) (union-pair-is i)) (h.old_are i))
-
--- the answer where the definition refuses
-pub refused-is : (o : Option PairError) (p : Pairing) (e : PairError) → IsErrorOf o e → IsPairedBy (unless_refused o p) (Err e)
-refused-is o p Memory h = tt
-refused-is o p (NoSuch table name) h = ap (λ o. unless_refused o p) h
-refused-is o p (Twice table name) h = ap (λ o. unless_refused o p) h

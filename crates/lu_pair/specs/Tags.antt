@@ -7,12 +7,14 @@ use Rattle.lu_image.specs.declared.rename.Table.{Table}
 use Rattle.lu_image.specs.declared.rename.Table.TheVariants as T
 use Rattle.lu_image.specs.declared.rename.Rename.{Rename}
 use Rattle.lu_image.specs.declared.error.PairError.{PairError}
-use Rattle.lu_image.specs.Names.{tag_names, joined}
-use Rattle.lu_image.specs.Pairing.{of_table, tag_pair, part_pairs}
+use Rattle.lu_image.specs.Names.{tag_names, joined, function_names, site_names}
+use Rattle.lu_image.specs.Pairing.{of_table, tag_pair, part_pairs, global_pairs, struct_pairs, field_pairs, union_pairs, member_pairs, function_pairs, site_pairs}
 use Rattle.lu_image.specs.RenameRefusal.{open_name, open_parts, new_parts, first_refusal, or_else, tag_refusal, part_refusal}
 use Rattle.lu_pair.specs.declared.parts.TagPairer.{TagPairer}
 use Rattle.lu_pair.specs.declared.paired.TagTask.{TagTask}
 use Rattle.lu_pair.specs.declared.paired.TagPairs.{TagPairs}
+use Rattle.lu_pair.specs.declared.paired.SiteNames.{SiteNames}
+use Rattle.lu_pair.specs.declared.paired.TablePairs.{TablePairs}
 
 -- no struct or union has more fields than there are numbers
 abbrev pub HaveFewParts : List TagDef → Type 0
@@ -80,3 +82,20 @@ pub record IsUnionTask (old new : Program) (renames : List Rename) (t : TagTask)
   pub new_texts : t.new_texts.now ≡ new.names
   pub old_are : t.old.now ≡ old.types.unions
   pub new_are : t.new.now ≡ new.types.unions
+
+-- the names of two programs by which sites pair
+pub record HaveSiteNames (old new : Program) (names : SiteNames) : Type 0 where
+  pub old_functions : names.old_functions ≡ function_names old
+  pub new_functions : names.new_functions ≡ function_names new
+  pub old_sites : names.old ≡ site_names old
+  pub new_sites : names.new ≡ site_names new
+
+-- the pairs of each table
+pub record AreTablePairs (old new : Program) (renames : List Rename) (t : TablePairs) : Type 0 where
+  pub globals : t.globals.items ≡ global_pairs old new renames
+  pub structs : t.structs.tags.items ≡ struct_pairs old new renames
+  pub fields : t.structs.parts.items ≡ field_pairs old new renames
+  pub unions : t.unions.tags.items ≡ union_pairs old new renames
+  pub members : t.unions.parts.items ≡ member_pairs old new renames
+  pub functions : t.functions.items ≡ function_pairs old new renames
+  pub sites : t.sites.items ≡ site_pairs old new renames

@@ -1,11 +1,11 @@
 // Two programs table by table.
 
-ghost use Rattle.std.specs.Prelude.{◌≡◌, ◌<◌, ◌^◌, length, IfOk};
+ghost use Rattle.std.specs.Prelude.{◌≡◌, ◌<◌, ◌^◌, [], length, IfOk};
 ghost use Rattle.c_types.specs.Words.{Tells};
-ghost use Rattle.lu_image.specs.Pairing.{global_pairs, struct_pairs, field_pairs, union_pairs, member_pairs, function_pairs, site_pairs};
-ghost use Rattle.lu_image.specs.RenameRefusal.{global_refusal, struct_refusal, field_refusal, union_refusal, member_refusal, function_refusal, site_refusal, or_else, pair};
+ghost use Rattle.lu_image.specs.Pairing.{pair_names, global_pairs, struct_pairs, field_pairs, union_pairs, member_pairs, function_pairs, site_pairs};
+ghost use Rattle.lu_image.specs.RenameRefusal.{first_refusal, global_refusal, struct_refusal, field_refusal, union_refusal, member_refusal, function_refusal, site_refusal, refusal_of, or_else, pair};
 ghost use Rattle.lu_pair.specs.Refusing.{IsRefusedBy, IsPairedBy};
-ghost use Rattle.lu_pair.specs.Tags.{HasFewEntries, HaveFewParts, ArePaired, IsStructTask, IsUnionTask, task_refusal};
+ghost use Rattle.lu_pair.specs.Tags.{HasFewEntries, HaveFewParts, ArePaired, IsStructTask, IsUnionTask, task_refusal, HaveSiteNames, AreTablePairs};
 
 use crate::names::NameList;
 use crate::open::open_names;
@@ -19,6 +19,23 @@ use lu_base::{Memory, Name};
 use lu_image::{Dangling, PairError, Pairing, Rename, Renames, Table};
 use src_model::program::Program;
 use std::alloc::Global;
+
+/// Pairs entries by their names, unless a rename is refused. `old_open` and `new_open` are the names that renames see.
+fn pair_named(
+    alloc: Global,
+    renaming: &Renaming,
+    old: &NameList,
+    new: &NameList,
+    old_open: &NameList,
+    new_open: &NameList,
+) -> Result<Vec<Option<u32>>, PairError>
+    requires { length new.now < 2 ^ 32 }
+    ensures refused { IsRefusedBy (first_refusal old_open.now new_open.now [] renaming.now) result }
+    ensures pairs { IfOk result (λ pairs. pairs.items ≡ pair_names renaming.now old.now new.now) }
+{
+    renaming.check(alloc, old_open, new_open)?;
+    Ok(renaming.pair_names(alloc, old.as_slice(), new)?)
+}
 
 /// Pairs the globals.
 fn pair_globals(
@@ -36,8 +53,7 @@ fn pair_globals(
     let new_names = global_names(alloc, new)?;
     let old_open = open_names(alloc, Table::Global, old_names.as_slice())?;
     let new_open = open_names(alloc, Table::Global, new_names.as_slice())?;
-    renaming.check(alloc, &old_open, &new_open)?;
-    Ok(renaming.pair_names(alloc, old_names.as_slice(), &new_names)?)
+    pair_named(alloc, &renaming, &old_names, &new_names, &old_open, &new_open)
 }
 
 /// Pairs the functions.
@@ -54,8 +70,7 @@ fn pair_functions(
     let renaming = Renaming::of_table(alloc, Table::Function, renames)?;
     let old_names = function_names(alloc, old)?;
     let new_names = function_names(alloc, new)?;
-    renaming.check(alloc, &old_names, &new_names)?;
-    Ok(renaming.pair_names(alloc, old_names.as_slice(), &new_names)?)
+    pair_named(alloc, &renaming, &old_names, &new_names, &old_names, &new_names)
 }
 
 /// The pairs of structs and of their fields, or of unions and of their members.
@@ -110,6 +125,30 @@ struct Pairs<'a> {
     functions: &'a [Option<u32>],
 }
 
+/// The names of the functions and of the sites of two programs.
+#[derive(Drop)]
+struct SiteNames {
+    old_functions: NameList,
+    new_functions: NameList,
+    old: NameList,
+    new: NameList,
+}
+
+fn names_of_sites(alloc: Global, old: &Program, new: &Program) -> Result<SiteNames, Memory>
+    ensures { IfOk result (HaveSiteNames old.now new.now) }
+{
+    let old_functions = function_names(alloc, old)?;
+    let new_functions = function_names(alloc, new)?;
+    let old_sites = site_names(alloc, &old_functions, old.sites.as_slice())?;
+    let new_sites = site_names(alloc, &new_functions, new.sites.as_slice())?;
+    Ok(SiteNames {
+        old: NameList::new(alloc, old_sites)?,
+        new: NameList::new(alloc, new_sites)?,
+        old_functions,
+        new_functions,
+    })
+}
+
 /// Pairs the sites.
 fn pair_all_sites(
     alloc: Global,
@@ -127,13 +166,10 @@ fn pair_all_sites(
     ensures pairs { IfOk result (λ found. found.items ≡ site_pairs old.now new.now renames.now) }
 {
     let renaming = Renaming::of_table(alloc, Table::Site, renames)?;
-    let old_functions = function_names(alloc, old)?;
-    let new_functions = function_names(alloc, new)?;
+    let names = names_of_sites(alloc, old, new)?;
+    renaming.check(alloc, &names.old, &names.new)?;
     let old_sites = old.sites.as_slice();
     let new_sites = new.sites.as_slice();
-    let old_names = NameList::new(alloc, site_names(alloc, &old_functions, old_sites)?)?;
-    let new_names = NameList::new(alloc, site_names(alloc, &new_functions, new_sites)?)?;
-    renaming.check(alloc, &old_names, &new_names)?;
     let types = TwoTypes {
         old: old.types.parts(),
         new: new.types.parts(),
@@ -143,10 +179,10 @@ fn pair_all_sites(
     let partners = site_partners(alloc, &types, old_sites, new_sites, pairs.functions)?;
     let pairer = SitePairer {
         renaming: &renaming,
-        old_functions: &old_functions,
-        new_functions: &new_functions,
+        old_functions: &names.old_functions,
+        new_functions: &names.new_functions,
         partners: &partners,
-        new: &new_names,
+        new: &names.new,
     };
     Ok(pair_sites(alloc, &pairer, old_sites)?)
 }
@@ -221,6 +257,47 @@ fn pair_unions(
     pair_tags(alloc, &task)
 }
 
+/// The pairs of each table.
+#[derive(Drop)]
+struct TablePairs {
+    globals: Vec<Option<u32>>,
+    structs: TagPairs,
+    unions: TagPairs,
+    functions: Vec<Option<u32>>,
+    sites: Vec<Option<u32>>,
+}
+
+/// Pairs each table, in the order in which renames are tried.
+fn pair_tables(
+    alloc: Global,
+    old: &Program,
+    new: &Program,
+    renames: &[Rename],
+) -> Result<TablePairs, PairError>
+    requires old_few { HasFewEntries old.now }
+    requires new_few { HasFewEntries new.now }
+    ensures refused { IsRefusedBy (refusal_of old.now new.now renames.now) result }
+    ensures pairs { IfOk result (AreTablePairs old.now new.now renames.now) }
+{
+    let globals = pair_globals(alloc, old, new, renames)?;
+    let structs = pair_structs(alloc, old, new, renames)?;
+    let unions = pair_unions(alloc, old, new, renames)?;
+    let functions = pair_functions(alloc, old, new, renames)?;
+    let pairs = Pairs {
+        structs: &structs.tags,
+        unions: &unions.tags,
+        functions: &functions,
+    };
+    let sites = pair_all_sites(alloc, old, new, renames, &pairs)?;
+    Ok(TablePairs {
+        globals,
+        structs,
+        unions,
+        functions,
+        sites,
+    })
+}
+
 /// Whether each list of a program's globals, functions and sites is shorter than there are numbers of 32 bits.
 pub fn has_few_entries(program: &Program) -> bool
     ensures { Tells result (HasFewEntries program.now) }
@@ -251,27 +328,17 @@ pub fn pair(
     requires new_few { HasFewEntries new.now }
     ensures { IsPairedBy (pair old.now new.now renames.now) result }
 {
-    let renames = renames.as_slice();
-    let globals = pair_globals(alloc, old, new, renames)?;
-    let structs = pair_structs(alloc, old, new, renames)?;
-    let unions = pair_unions(alloc, old, new, renames)?;
-    let functions = pair_functions(alloc, old, new, renames)?;
-    let pairs = Pairs {
-        structs: &structs.tags,
-        unions: &unions.tags,
-        functions: &functions,
-    };
-    let sites = pair_all_sites(alloc, old, new, renames, &pairs)?;
+    let tables = pair_tables(alloc, old, new, renames.as_slice())?;
     let old_outline = outline_of(alloc, old)?;
     let new_outline = outline_of(alloc, new)?;
     Ok(Pairing {
-        globals: Sequence::from_vec(globals),
-        structs: Sequence::from_vec(structs.tags),
-        fields: Sequence::from_vec(structs.parts),
-        unions: Sequence::from_vec(unions.tags),
-        members: Sequence::from_vec(unions.parts),
-        functions: Sequence::from_vec(functions),
-        sites: Sequence::from_vec(sites),
+        globals: Sequence::from_vec(tables.globals),
+        structs: Sequence::from_vec(tables.structs.tags),
+        fields: Sequence::from_vec(tables.structs.parts),
+        unions: Sequence::from_vec(tables.unions.tags),
+        members: Sequence::from_vec(tables.unions.parts),
+        functions: Sequence::from_vec(tables.functions),
+        sites: Sequence::from_vec(tables.sites),
         old: old_outline,
         new: new_outline,
         dangling: Dangling::Refuse,
