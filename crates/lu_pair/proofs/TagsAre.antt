@@ -1,12 +1,11 @@
 -- The pairs of a task's structs or unions, and of their fields or members, are those of its definition.
-use Rattle.std.proofs.Common.{◌≡◌, ◌∙◌, sym, ap, subst, ◌<◌, ◌^◌, List, [], length, map, Option, slice_get, arith}
-use Rattle.std.proofs.lemmas.List.{length-map}
+use Rattle.std.proofs.Common.{◌≡◌, List, [], map}
 use Rattle.lu_image.specs.Names.{tag_names, joined}
 use Rattle.lu_image.specs.Pairing.{of_table, tag_pair, part_pairs}
 use Rattle.lu_image.specs.RenameRefusal.{open_name, open_parts, new_parts, first_refusal, tag_refusal, part_refusal}
 use Rattle.lu_pair.specs.declared.parts.TagPairer.{TagPairer}
 use Rattle.lu_pair.specs.declared.paired.TagTask.{TagTask}
-use Rattle.lu_pair.specs.Tags.{IsTagPairer, HaveFewParts, pair_of, task_pair, tags_refused, parts_refused}
+use Rattle.lu_pair.specs.Tags.{IsTagPairer, pair_of, task_pair, tags_refused, parts_refused}
 
 module _ (t : TagTask) (p : TagPairer) (h : IsTagPairer t.tags t.renames.now t.old_texts.now t.new_texts.now t.old.now t.new.now p) where
   pair-is : pair_of p ≡ task_pair t
@@ -23,9 +22,3 @@ module _ (t : TagTask) (p : TagPairer) (h : IsTagPairer t.tags t.renames.now t.o
 
   pub part-pairs-are : map (part_pairs (of_table t.parts t.renames.now) p.old_texts.now p.new_texts.now p.new.now (pair_of p)) p.old.now ≡ map (part_pairs (of_table t.parts t.renames.now) t.old_texts.now t.new_texts.now t.new.now (task_pair t)) t.old.now
   part-pairs-are = λ i. map (part_pairs (of_table t.parts t.renames.now) (h.old_texts_are i) (h.new_texts_are i) (h.new_are i) (pair-is i)) (h.old_are i)
-
-  pub new-names-few : length t.new.now < 2 ^ 32 → length p.new_names < 2 ^ 32
-  new-names-few few = subst (λ names. length names < 2 ^ 32) (sym h.names_are) (subst (λ n. n < 2 ^ 32) (sym (length-map (λ tag. slice_get t.new_texts.now tag.tag) t.new.now)) few)
-
-  pub new-parts-few : HaveFewParts t.new.now → HaveFewParts p.new.now
-  new-parts-few few = subst HaveFewParts (sym h.new_are) few
