@@ -50,11 +50,7 @@ fn all_open_names(
 }
 
 /// Names as renames see them.
-pub fn open_names(
-    alloc: Global,
-    table: Table,
-    names: &[Option<Name>],
-) -> Result<NameList, Memory>
+pub fn open_names(alloc: Global, table: Table, names: &[Option<Name>]) -> Result<NameList, Memory>
     ensures { IfOk result (λ list. list ≡ map (open_name table) names.now) }
 {
     NameList::new(alloc, all_open_names(alloc, table, names)?)

@@ -53,7 +53,9 @@ fn pair_globals(
     let new_names = global_names(alloc, new)?;
     let old_open = open_names(alloc, Table::Global, old_names.as_slice())?;
     let new_open = open_names(alloc, Table::Global, new_names.as_slice())?;
-    pair_named(alloc, &renaming, &old_names, &new_names, &old_open, &new_open)
+    pair_named(
+        alloc, &renaming, &old_names, &new_names, &old_open, &new_open,
+    )
 }
 
 /// Pairs the functions.
@@ -70,7 +72,9 @@ fn pair_functions(
     let renaming = Renaming::of_table(alloc, Table::Function, renames)?;
     let old_names = function_names(alloc, old)?;
     let new_names = function_names(alloc, new)?;
-    pair_named(alloc, &renaming, &old_names, &new_names, &old_names, &new_names)
+    pair_named(
+        alloc, &renaming, &old_names, &new_names, &old_names, &new_names,
+    )
 }
 
 /// The pairs of structs and of their fields, or of unions and of their members.

@@ -170,12 +170,7 @@ impl Renaming {
     }
 
     /// The pair of an entry, among new entries of these names: as the renames say, or the one of the name that is wanted.
-    pub fn pair_by(
-        &self,
-        new: &NameList,
-        own: &Option<Name>,
-        wanted: &Option<Name>,
-    ) -> Option<u32>
+    pub fn pair_by(&self, new: &NameList, own: &Option<Name>, wanted: &Option<Name>) -> Option<u32>
         requires { length new.now < 2 ^ 32 }
         ensures { result ≡ pair_by self.now new.now own.now wanted.now }
     {

@@ -52,7 +52,14 @@ fn all_correspond(types: &TwoTypes, old: &[TyId], new: &[TyId]) -> bool
         return false;
     }
     for (place, ty) in old.iter().enumerate() {
-        if !corresponds(types.old, types.new, types.structs, types.unions, *ty, new[place]) {
+        if !corresponds(
+            types.old,
+            types.new,
+            types.structs,
+            types.unions,
+            *ty,
+            new[place],
+        ) {
             return false;
         }
     }
@@ -133,7 +140,11 @@ fn pair_site(alloc: Global, p: &SitePairer, site: &Site) -> Result<Option<u32>, 
     requires { length p.now.new.now < 2 ^ 32 }
     ensures { IfOk result (λ pair. pair ≡ site_pair p.now site.now) }
 {
-    let own = site_name(alloc, p.old_functions.get(site.function as usize), site.ordinal)?;
+    let own = site_name(
+        alloc,
+        p.old_functions.get(site.function as usize),
+        site.ordinal,
+    )?;
     let wanted = match p.partners.get(site.function as usize) {
         Some(Some(pair)) => site_name(alloc, p.new_functions.get(*pair as usize), site.ordinal)?,
         _ => None,
@@ -142,11 +153,7 @@ fn pair_site(alloc: Global, p: &SitePairer, site: &Site) -> Result<Option<u32>, 
 }
 
 /// The pairs of all sites.
-pub fn pair_sites(
-    alloc: Global,
-    p: &SitePairer,
-    sites: &[Site],
-) -> Result<Vec<Option<u32>>, Memory>
+pub fn pair_sites(alloc: Global, p: &SitePairer, sites: &[Site]) -> Result<Vec<Option<u32>>, Memory>
     requires { length p.now.new.now < 2 ^ 32 }
     ensures { IfOk result (λ pairs. pairs.items ≡ map (site_pair p.now) sites.now) }
 {

@@ -4,12 +4,11 @@ ghost use Rattle.std.specs.Prelude.{◌≡◌, map, IfOk, slice_get};
 ghost use Rattle.std.specs.Option.{option_copied};
 ghost use Rattle.lu_image.specs.Names.{global_names, function_names, tag_names, full_name, part_names, site_name, named_sites};
 
+use crate::names::NameList;
 use c_types::{FieldDef, TagDef};
 use lu_base::{Memory, Name};
 use src_model::program::{Function, Global as GlobalVariable, Program, Site};
 use std::alloc::Global;
-
-use crate::names::NameList;
 
 /// The text of a number, if it names one.
 pub fn text_at(alloc: Global, texts: &[Name], number: u32) -> Result<Option<Name>, Memory>
@@ -77,14 +76,20 @@ pub fn global_names(alloc: Global, program: &Program) -> Result<NameList, Memory
     ensures { IfOk result (λ names. names ≡ global_names program.now) }
 {
     let texts = program.names.as_slice();
-    NameList::new(alloc, names_of_globals(alloc, texts, program.globals.as_slice())?)
+    NameList::new(
+        alloc,
+        names_of_globals(alloc, texts, program.globals.as_slice())?,
+    )
 }
 
 pub fn function_names(alloc: Global, program: &Program) -> Result<NameList, Memory>
     ensures { IfOk result (λ names. names ≡ function_names program.now) }
 {
     let texts = program.names.as_slice();
-    NameList::new(alloc, names_of_functions(alloc, texts, program.functions.as_slice())?)
+    NameList::new(
+        alloc,
+        names_of_functions(alloc, texts, program.functions.as_slice())?,
+    )
 }
 
 /// The tags of structs or of unions.
@@ -95,11 +100,7 @@ pub fn tag_names(alloc: Global, texts: &[Name], tags: &[TagDef]) -> Result<NameL
 }
 
 /// A field's or a member's name behind its tag, `tag.name`.
-fn full_name(
-    alloc: Global,
-    tag: &Option<Name>,
-    name: Option<&Name>,
-) -> Result<Option<Name>, Memory>
+fn full_name(alloc: Global, tag: &Option<Name>, name: Option<&Name>) -> Result<Option<Name>, Memory>
     ensures { IfOk result (λ full. full ≡ full_name tag.now (option_copied name.entry)) }
 {
     match (tag, name) {

@@ -49,9 +49,9 @@ returns-clause-pairs c =
     let q = c.requires in
     let n = c.in_ok-names.ensures in
     let found : c.deref.result.now ≡ partners old new rs =
-        c.deref.ensures.value
-        ∙ (c.in_ok-partners.ensures
-        ∙ (λ i. partners_from (partner_if (corresponds (c.parts.ensures.value i) (c.parts-2.ensures.value i) (q.structs i) (q.unions i)) (site_elements (c.as_slice-old_sites.ensures i)) (site_elements (c.as_slice-new_sites.ensures i))) 0 (q.functions i))) in
+    c.deref.ensures.value
+    ∙ (c.in_ok-partners.ensures
+    ∙ (λ i. partners_from (partner_if (corresponds (c.parts.ensures.value i) (c.parts-2.ensures.value i) (q.structs i) (q.unions i)) (site_elements (c.as_slice-old_sites.ensures i)) (site_elements (c.as_slice-new_sites.ensures i))) 0 (q.functions i))) in
     c.in_ok-pair_sites.ensures
     ∙ ((λ i. map (site_pair_by (c.in_ok-renaming.ensures i) (n.old_functions i) (found i) (n.new_functions i) (n.new_sites i)) (c.as_slice-old_sites.ensures i))
     ∙ sites-are old new rs)
