@@ -1,5 +1,5 @@
 -- Exits of a call that pairs.
-use Rattle.std.proofs.Common.{◌≡◌, ◌∙◌, sym, ap, subst, refl, List, [], map, Option, Some, None, Result, Ok, Err}
+use Rattle.std.proofs.Common.{◌≡◌, ◌∙◌, sym, ap, subst, refl, Option, Some, None, Result, Ok, Err}
 use Rattle.std.specs.Result.{IsErrAnd}
 use Rattle.lu_image.specs.declared.error.PairError.{PairError}
 use Rattle.lu_image.specs.declared.error.PairError.TheVariants.{NoSuch, Twice, Memory}

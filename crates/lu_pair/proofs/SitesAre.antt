@@ -1,5 +1,5 @@
 -- The pairs of sites by the partners of functions are those of the definition.
-use Rattle.std.proofs.Common.{◌≡◌, ◌∙◌, sym, ap, subst, refl, ℕ, zero, suc, ◌+◌, ◌<◌, ◌^◌, List, [], ◌∷◌, length, map, Option, Some, None, slice_get, arith}
+use Rattle.std.proofs.Common.{◌≡◌, ◌∙◌, sym, ap, subst, refl, ℕ, zero, suc, ◌+◌, ◌<◌, ◌^◌, List, [], ◌∷◌, length, map, Option, slice_get, arith}
 use Rattle.std.proofs.lemmas.List.{length-map}
 use Rattle.lu_spec.specs.Then.{then_option}
 use Rattle.src_model.specs.declared.program.Program.{Program}

@@ -1,8 +1,7 @@
 -- Steps of loops over lists.
-use Rattle.std.proofs.Common.{◌≡◌, ◌≢◌, ◌∙◌, sym, ap, subst, refl, ℕ, zero, suc, ◌+◌, ◌<◌, Bool, true, false, ◌&&◌, List, [], ◌∷◌, ◌++◌, length, map, take, drop, get_or, Option, Some, None, drop-cons, add-one, arith}
+use Rattle.std.proofs.Common.{◌≡◌, ◌≢◌, ◌∙◌, sym, ap, refl, ℕ, suc, ◌+◌, ◌<◌, Bool, true, false, ◌&&◌, List, [], ◌∷◌, ◌++◌, length, map, take, drop, get_or, Option, drop-cons, arith}
 use Rattle.std.proofs.lemmas.List.{take_more}
 use Rattle.lu_image.specs.declared.rename.Rename.{Rename}
-use Rattle.lu_image.specs.declared.error.PairError.{PairError}
 use Rattle.lu_image.specs.Names.{Names, joined}
 use Rattle.lu_image.specs.Pairing.{all_correspond}
 use Rattle.lu_image.specs.RenameRefusal.{rename_refusal, or_else, first_refusal}

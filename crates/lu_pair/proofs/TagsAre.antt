@@ -1,5 +1,5 @@
 -- The pairs of a task's structs or unions, and of their fields or members, are those of its definition.
-use Rattle.std.proofs.Common.{◌≡◌, List, [], map}
+use Rattle.std.proofs.Common.{◌≡◌, [], map}
 use Rattle.lu_image.specs.Names.{tag_names, joined}
 use Rattle.lu_image.specs.Pairing.{of_table, tag_pair, part_pairs}
 use Rattle.lu_image.specs.RenameRefusal.{open_name, open_parts, new_parts, first_refusal, tag_refusal, part_refusal}

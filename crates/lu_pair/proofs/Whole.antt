@@ -1,5 +1,5 @@
 -- The tables of two programs together.
-use Rattle.std.proofs.Common.{◌≡◌, ◌∙◌, sym, ap, subst, refl, ℕ, ◌+◌, ◌<◌, ◌^◌, Bool, true, List, length, map, Option, Some, None, Result, Ok, Err, IfOk, slice_get, arith}
+use Rattle.std.proofs.Common.{◌≡◌, ◌∙◌, ℕ, ◌<◌, ◌^◌, true, List, length, map, Result, Ok, Err, IfOk, arith}
 use Rattle.std.proofs.lemmas.Bool.Decides.{nat_tests}
 use Rattle.c_types.specs.declared.parts.Parts.{Parts}
 use Rattle.c_types.specs.Numbering.{is_countable}
@@ -8,12 +8,9 @@ use Rattle.c_types.proofs.Lists.{and_left, and_right}
 use Rattle.c_types.proofs.Numbered.{all_countable, fields_few, members_few}
 use Rattle.src_model.specs.declared.program.Program.{Program}
 use Rattle.lu_image.specs.declared.rename.Rename.{Rename}
-use Rattle.lu_image.specs.declared.error.PairError.{PairError}
-use Rattle.lu_image.specs.declared.error.PairError.TheVariants.{NoSuch, Twice, Memory}
-use Rattle.lu_image.specs.declared.pairing.Pairing.{Pairing}
 use Rattle.lu_image.specs.Names.{tag_names}
 use Rattle.lu_image.specs.Pairing.{of_table, tag_pair, part_pairs, struct_pair, union_pair, struct_pairs, union_pairs, field_pairs, member_pairs}
-use Rattle.lu_image.specs.RenameRefusal.{tag_refusal, part_refusal, or_else, struct_refusal, field_refusal, union_refusal, member_refusal, unless_refused}
+use Rattle.lu_image.specs.RenameRefusal.{tag_refusal, part_refusal, or_else, struct_refusal, field_refusal, union_refusal, member_refusal}
 use Rattle.lu_pair.specs.declared.paired.TagTask.{TagTask}
 use Rattle.lu_pair.specs.declared.paired.TagPairs.{TagPairs}
 use Rattle.lu_pair.specs.Tags.{HaveFewParts, IsStructTask, IsUnionTask, ArePaired, task_pair, task_refusal}

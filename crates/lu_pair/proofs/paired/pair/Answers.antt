@@ -1,6 +1,5 @@
 use Rattle.std.proofs.Common.{◌≡◌, ◌∙◌, sym, ap, subst, None, Ok}
 use Rattle.lu_image.specs.declared.pairing.Dangling.TheVariants.{Refuse}
-use Rattle.lu_image.specs.declared.pairing.Pairing.{Pairing}
 use Rattle.lu_image.specs.Pairing.{pairing_of}
 use Rattle.lu_image.specs.RenameRefusal.{refusal_of, unless_refused}
 use Rattle.lu_pair.specs.Refusing.{IsErrorOf}

@@ -1,4 +1,4 @@
-use Rattle.std.proofs.Common.{◌≡◌, ◌∙◌}
+use Rattle.std.proofs.Common.{◌∙◌}
 use Rattle.lu_image.specs.RenameRefusal.{refusal_of}
 use Rattle.lu_pair.proofs.Exits.{error-refuses}
 use Rattle.lu_pair.proofs.Tables.{at-globals, at-structs, at-unions, at-functions, at-sites, at-none}

@@ -1,4 +1,4 @@
-use Rattle.std.proofs.Common.{◌≡◌, ◌∙◌, sym, ap, subst, map}
+use Rattle.std.proofs.Common.{◌∙◌, sym, ap, subst, map}
 use Rattle.lu_image.specs.Pairing.{part_pairs}
 use Rattle.lu_pair.specs.Refusing.{IsErrorOf}
 use Rattle.lu_pair.specs.Tags.{pair_of, task_refusal, parts_refused}

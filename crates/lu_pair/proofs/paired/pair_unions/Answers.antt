@@ -1,4 +1,4 @@
-use Rattle.std.proofs.Common.{◌≡◌, subst, IfOk}
+use Rattle.std.proofs.Common.{◌≡◌, subst}
 use Rattle.lu_image.specs.Pairing.{union_pairs, member_pairs}
 use Rattle.lu_pair.specs.Refusing.{IsRefusedBy}
 use Rattle.lu_pair.specs.Tags.{ArePaired}

@@ -1,4 +1,4 @@
-use Rattle.std.proofs.Common.{◌≡◌, ◌∙◌, sym, ap, subst, ◌<◌, ◌^◌, length}
+use Rattle.std.proofs.Common.{◌∙◌, sym, ap, subst, ◌<◌, ◌^◌, length}
 use Rattle.lu_pair.specs.Tags.{HaveFewParts}
 use Rattle.lu_pair.proofs.Whole.{structs-few, struct-parts-few}
 use Rattle.lu_pair.proofs.paired.struct_task.Goals as goal

@@ -1,4 +1,4 @@
-use Rattle.std.proofs.Common.{◌≡◌, ◌∙◌, ap, ◌++◌, ◌∷◌, []}
+use Rattle.std.proofs.Common.{◌∙◌, ap, ◌++◌, ◌∷◌, []}
 use Rattle.lu_image.specs.Pairing.{part_pairs}
 use Rattle.lu_pair.specs.Tags.{pair_of}
 use Rattle.lu_pair.proofs.Steps.{map-more}
