@@ -1,0 +1,16 @@
+//! Pairs the entries of two programs by their names and by renames.
+#![tactic(auto)]
+
+mod names;
+mod open;
+mod outline;
+mod paired;
+mod parts;
+mod renaming;
+mod sites;
+#[cfg(test)]
+mod tests;
+mod texts;
+
+pub use lu_image::PairError;
+pub use paired::{has_few_entries, pair};
