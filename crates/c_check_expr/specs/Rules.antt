@@ -1,7 +1,7 @@
 -- Broken rules and their codes.
 use Rattle.std.specs.Prelude.{ℕ, nat_lt, Option, Some, None, Result, Ok, Err, if◌then◌else◌}
 use Rattle.c_check_expr.specs.declared.rule.Rule.{Rule}
-use Rattle.c_check_expr.specs.declared.rule.Rule.TheVariants.{UnknownTag, VoidValue, Undeclared, NotPlace, NoAddress, NoField, NoPointer, Operands, Conversion, Condition, Callee, BuiltIn, VoidResult, InsideUnion, Cast}
+use Rattle.c_check_expr.specs.declared.rule.Rule.TheVariants.{UnknownTag, VoidValue, Undeclared, NotPlace, NoAddress, NoField, NoPointer, Operands, Conversion, Condition, Callee, BuiltIn, VoidResult, InsideUnion, Cast, NameTaken, Fields, ArrayLength, Size, NotScalar, LocalTaken, Initialiser, Undefined, OutsideLoop, Returned, EntryPoint, TooManyLocals, TooMany}
 
 -- the number of a rule
 unfoldable pub code : Rule → ℕ
@@ -20,6 +20,19 @@ code BuiltIn = 20
 code VoidResult = 22
 code InsideUnion = 23
 code Cast = 24
+code NameTaken = 1
+code Fields = 2
+code ArrayLength = 5
+code Size = 6
+code NotScalar = 7
+code LocalTaken = 8
+code Initialiser = 9
+code Undefined = 10
+code OutsideLoop = 21
+code Returned = 22
+code EntryPoint = 25
+code TooManyLocals = 26
+code TooMany = 27
 
 -- the rule of the lesser code
 unfoldable pub least : Rule → Rule → Rule

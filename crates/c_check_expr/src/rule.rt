@@ -1,4 +1,4 @@
-// The typing rules that an expression can break.
+// The typing rules.
 
 ghost use Rattle.std.specs.Prelude.{◌≡◌};
 ghost use Rattle.c_check_expr.specs.Rules.{code, least};
@@ -36,6 +36,33 @@ pub enum Rule {
     InsideUnion,
     /// A cast that the language leaves out.
     Cast,
+    /// A tag, or the name of a global or function, is taken.
+    NameTaken,
+    /// A struct or union has no field, or a field name twice.
+    Fields,
+    /// An array length is outside 1..1,048,576.
+    ArrayLength,
+    /// A type's size, or the sum of the globals' sizes so far, passes 1,048,576.
+    Size,
+    /// A local, a parameter, or a result other than `void`, isn't a scalar.
+    NotScalar,
+    /// A local or parameter has the name of another one of its function, of its function, of a global or function
+    /// declared earlier, or of a built-in.
+    LocalTaken,
+    /// An initialiser doesn't fit.
+    Initialiser,
+    /// A prototype has no definition later in the text, or one of another type.
+    Undefined,
+    /// `break` or `continue` outside a loop.
+    OutsideLoop,
+    /// A value returned from a void function, or none from another.
+    Returned,
+    /// `init` or `on_message` isn't defined with type `void (void)`.
+    EntryPoint,
+    /// More than 64 parameters, or 256 locals with parameters.
+    TooManyLocals,
+    /// A count of the program passes 4,096.
+    TooMany,
 }
 
 impl Rule {
@@ -60,6 +87,19 @@ impl Rule {
             Rule::VoidResult => 22,
             Rule::InsideUnion => 23,
             Rule::Cast => 24,
+            Rule::NameTaken => 1,
+            Rule::Fields => 2,
+            Rule::ArrayLength => 5,
+            Rule::Size => 6,
+            Rule::NotScalar => 7,
+            Rule::LocalTaken => 8,
+            Rule::Initialiser => 9,
+            Rule::Undefined => 10,
+            Rule::OutsideLoop => 21,
+            Rule::Returned => 22,
+            Rule::EntryPoint => 25,
+            Rule::TooManyLocals => 26,
+            Rule::TooMany => 27,
         }
     }
 }

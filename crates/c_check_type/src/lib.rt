@@ -1,0 +1,9 @@
+//! What the declarators of the C subset denote in a scope: the number of a type, or the least code of the rules that
+//! they break.
+#![tactic(auto)]
+
+pub mod objects;
+pub mod params;
+pub mod signatures;
+#[cfg(test)]
+mod tests;
