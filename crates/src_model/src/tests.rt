@@ -133,15 +133,14 @@ fn handler(alloc: Global, name: u32, body: Items<TypedStmt>) -> Function {
 }
 
 // `m_in`, `m_out`, an empty `init`, and an `on_message` with this statement and this name's spelling.
-fn with_statement(alloc: Global, word: &[u8], statement: TypedStmt) -> Result<Program, Fail> {
+fn with_statement(alloc: Global, word: &str, statement: TypedStmt) -> Result<Program, Fail> {
     let mut names = Items::new(alloc);
-    let words: [&[u8]; 7] = [
-        b"m_in", b"m_out", b"message", b"source", b"type", b"arg", b"init",
+    let words = [
+        "m_in", "m_out", "message", "source", "type", "arg", "init", word,
     ];
-    for known in words {
-        names.push(Name::from_ascii(alloc, known)?)?;
+    for name in words {
+        names.push(Name::new(String::from_str(alloc, name)?))?;
     }
-    names.push(Name::from_ascii(alloc, word)?)?;
     let mut globals = Items::new(alloc);
     for name in 0..2 {
         globals.push(GlobalVariable {
@@ -167,12 +166,12 @@ fn with_statement(alloc: Global, word: &[u8], statement: TypedStmt) -> Result<Pr
 #[test]
 fn programs_are_valid_or_have_a_flaw(rt: HostRuntime) -> Result<(), Fail> {
     let alloc = rt.alloc();
-    let handler: &[u8] = b"on_message";
+    let handler = "on_message";
     assert!(rt; with_statement(alloc, handler, TypedStmt::Empty)?.valid());
     assert!(rt; with_statement(alloc, handler, TypedStmt::Return(None))?.valid());
     assert!(rt; !with_statement(alloc, handler, TypedStmt::Break)?.valid());
-    assert!(rt; !with_statement(alloc, b"m_in", TypedStmt::Empty)?.valid());
-    assert!(rt; !with_statement(alloc, b"int", TypedStmt::Empty)?.valid());
+    assert!(rt; !with_statement(alloc, "m_in", TypedStmt::Empty)?.valid());
+    assert!(rt; !with_statement(alloc, "int", TypedStmt::Empty)?.valid());
     assert!(rt; !sample(alloc)?.valid());
     Ok(())
 }
@@ -180,7 +179,7 @@ fn programs_are_valid_or_have_a_flaw(rt: HostRuntime) -> Result<(), Fail> {
 #[test]
 fn the_store_at_the_start_has_each_global(rt: HostRuntime) -> Result<(), Fail> {
     let alloc = rt.alloc();
-    let program = with_statement(alloc, b"on_message", TypedStmt::Empty)?;
+    let program = with_statement(alloc, "on_message", TypedStmt::Empty)?;
     let store = initial_store(alloc, &program)?;
     assert_eq!(rt; store.objects.len(), 2);
     for object in store.objects.as_slice() {
