@@ -11,8 +11,6 @@ pub mod operators;
 pub mod places;
 pub mod rule;
 pub mod scope;
-#[cfg(test)]
-mod tests;
 pub mod typing;
 pub mod uses;
 pub mod values;
