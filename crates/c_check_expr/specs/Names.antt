@@ -6,6 +6,7 @@ use Rattle.lu_spec.specs.Then.{then_option}
 use Rattle.c_types.specs.declared.parts.Ty.{Ty}
 use Rattle.c_judge.specs.declared.members.Part.{Part}
 use Rattle.c_judge.specs.Members.{part_of}
+use Rattle.c_judge.specs.Operands.{or_else}
 use Rattle.c_check_expr.specs.declared.scope.Scope.{Scope}
 use Rattle.c_check_expr.specs.declared.scope.Meaning.{Meaning}
 use Rattle.c_check_expr.specs.declared.scope.Tag.{Tag}
@@ -30,9 +31,17 @@ abbrev pub flat : {A : Type 0} → Option (Option A) → Option A
 flat None = None
 flat (Some a) = a
 
+-- the parameter or local of a name
+unfoldable pub local_of : Scope → Text → Option Meaning
+local_of scope x = then_option (number_named scope.locals x) (slice_get scope.variables)
+
+-- the global or function of a name
+unfoldable pub global_of : Scope → Text → Option Meaning
+global_of scope x = then_option (number_named scope.names x) (λ k. flat (slice_get scope.meanings k))
+
 -- what a name is declared as
 unfoldable pub meaning_of : Scope → Text → Option Meaning
-meaning_of scope x = then_option (number_named scope.names x) (λ k. flat (slice_get scope.meanings k))
+meaning_of scope x = or_else (local_of scope x) (global_of scope x)
 
 -- the struct or union of a tag
 unfoldable pub tag_of : Scope → Text → Option Tag

@@ -1,7 +1,7 @@
 // What is declared where an expression stands.
 
 ghost use Rattle.std.specs.Prelude.{◌≡◌};
-ghost use Rattle.c_check_expr.specs.Names.{meaning_of, tag_of, part_named};
+ghost use Rattle.c_check_expr.specs.Names.{local_of, global_of, meaning_of, tag_of, part_named};
 
 use crate::names::Names;
 use c_ast::types::TagKind;
@@ -50,17 +50,33 @@ pub struct Scope {
     pub types: Types,
     /// The names of the text. The others are by their numbers.
     pub names: Names,
-    /// What each name is declared as, if it is a variable or function.
+    /// What each name is declared as outside functions, if it is a variable or function.
     pub meanings: Items<Option<Meaning>>,
     /// The struct or union of which each name is the tag, if any.
     pub tags: Items<Option<Tag>>,
+    /// The names of the parameters and locals that are declared so far in the function whose text this is.
+    pub locals: Names,
+    /// What each of these is declared as.
+    pub variables: Items<Meaning>,
 }
 
 impl Scope {
-    /// What a name is declared as.
-    #[tactic(auto, unfolding(crate::specs::Names::meaning_of))]
-    pub fn meaning_of(&self, name: &Name) -> Option<Meaning>
-        ensures { result ≡ meaning_of self.now name.now }
+    #[tactic(auto, unfolding(crate::specs::Names::local_of))]
+    fn local_of(&self, name: &Name) -> Option<Meaning>
+        ensures { result ≡ local_of self.now name.now }
+    {
+        match self.locals.number_of(name) {
+            None => None,
+            Some(number) => match self.variables.as_slice().get(number) {
+                None => None,
+                Some(meaning) => Some(*meaning),
+            },
+        }
+    }
+
+    #[tactic(auto, unfolding(crate::specs::Names::global_of))]
+    fn global_of(&self, name: &Name) -> Option<Meaning>
+        ensures { result ≡ global_of self.now name.now }
     {
         match self.names.number_of(name) {
             None => None,
@@ -68,6 +84,17 @@ impl Scope {
                 None => None,
                 Some(meaning) => *meaning,
             },
+        }
+    }
+
+    /// What a name is declared as.
+    #[tactic(auto, unfolding(crate::specs::Names::meaning_of))]
+    pub fn meaning_of(&self, name: &Name) -> Option<Meaning>
+        ensures { result ≡ meaning_of self.now name.now }
+    {
+        match self.local_of(name) {
+            Some(meaning) => Some(meaning),
+            None => self.global_of(name),
         }
     }
 

@@ -138,6 +138,8 @@ fn scope(alloc: Global) -> Result<Scope, Fail> {
         names: Names::new(alloc),
         meanings: Items::new(alloc),
         tags: Items::new(alloc),
+        locals: Names::new(alloc),
+        variables: Items::new(alloc),
     };
     for (name, kind, number, is_declared) in TAGS {
         let name = Name::new(String::from_str(alloc, name)?);
