@@ -74,8 +74,9 @@ impl Scope {
         }
     }
 
+    /// The global, function or built-in of a name.
     #[tactic(auto, unfolding(crate::specs::Names::global_of))]
-    fn global_of(&self, name: &Name) -> Option<Meaning>
+    pub fn global_of(&self, name: &Name) -> Option<Meaning>
         ensures { result ≡ global_of self.now name.now }
     {
         match self.names.number_of(name) {

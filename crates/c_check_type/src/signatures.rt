@@ -28,7 +28,8 @@ fn same_result(a: Option<TyId>, b: Option<TyId>) -> bool
     }
 }
 
-fn same_signature(a: &Signature, b: &Signature) -> bool
+/// Whether two signatures are equal.
+pub fn same_signature(a: &Signature, b: &Signature) -> bool
     ensures { result ≡ spec.same_signature a.now b.now }
 {
     same_result(a.result, b.result) && same_numbers(a.params.as_slice(), b.params.as_slice())
