@@ -23,6 +23,3 @@ pub use path::{Path, Place, Step};
 pub use sequence::Sequence;
 pub use shape::{GREATEST, Shape};
 pub use table::TypeTable;
-
-#[cfg(test)]
-mod tests;

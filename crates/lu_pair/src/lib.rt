@@ -8,8 +8,6 @@ mod paired;
 mod parts;
 mod renaming;
 mod sites;
-#[cfg(test)]
-mod tests;
 mod texts;
 
 pub use lu_image::PairError;

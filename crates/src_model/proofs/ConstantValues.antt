@@ -1,5 +1,5 @@
 -- The values of constants that aren't integers.
-use Rattle.std.proofs.Common.{◌≡◌, ◌∙◌, refl, sym, ap, ℕ, zero, suc, ℤ, pos, negsuc, Bool, true, false, ◌&&◌, ◌||◌, if◌then◌else◌, Option, Some, None, Ok, Err, slice_get}
+use Rattle.std.proofs.Common.{◌≡◌, ◌∙◌, refl, sym, ap, ℕ, zero, suc, ℤ, pos, negsuc, Bool, true, false, ◌&&◌, ◌||◌, if◌then◌else◌, Option, Some, None, Ok, Err}
 use Rattle.lu_base.specs.declared.trap.Trap.TheVariants.{BadCode}
 use Rattle.c_types.specs.declared.parts.Parts.{Parts}
 use Rattle.c_types.specs.declared.parts.Ty.{Ty}
@@ -14,7 +14,8 @@ use Rattle.src_model.specs.declared.program.Program.{Program}
 use Rattle.src_model.specs.Integers.{is_zero}
 use Rattle.src_model.specs.Operators.{converted_to}
 use Rattle.src_model.specs.Expression.{Scope, value_of}
-use Rattle.src_model.specs.Constant.{kind_at, is_int_kind, is_integer_constant, is_zero_literal, is_pointer_in, is_pointer, is_null_constant, is_address_constant, constant_value, if_ok}
+use Rattle.src_model.specs.ValidTypes.{ty, is_int, is_pointer}
+use Rattle.src_model.specs.Constant.{is_integer_constant, is_zero_literal, is_null_constant, is_address_constant, constant_value, if_ok}
 use Rattle.src_model.specs.Initial.{initial_scope, start_in, start_of}
 use Rattle.src_model.proofs.LayoutLengths.{and_left, and_right}
 
@@ -23,7 +24,7 @@ zero_is (pos zero) h = refl
 zero_is (pos (suc n)) h = cc
 zero_is (negsuc n) h = cc
 
-null_in : (o : Option Ty) → is_pointer_in o ≡ true → converted_to o (V.Int (pos 0)) ≡ Ok V.Null
+null_in : (o : Option Ty) → is_pointer o ≡ true → converted_to o (V.Int (pos 0)) ≡ Ok V.Null
 null_in None h = cc
 null_in (Some (T.Int k)) h = cc
 null_in (Some (T.Pointer t)) h = refl
@@ -34,7 +35,7 @@ null_in (Some (T.Union u)) h = cc
 null_in (Some (T.Array t n)) h = cc
 
 literal_value : (at : Scope) (t : ℕ) (kind : ExprKind) → is_zero_literal at.types t kind ≡ true → value_of at t kind ≡ Ok (V.Int (pos 0))
-literal_value at t (Number z) h = ap (λ z. Ok (V.Int z)) (zero_is z (and_right (is_int_kind (kind_at at.types t)) (is_zero z) h))
+literal_value at t (Number z) h = ap (λ z. Ok (V.Int z)) (zero_is z (and_right (is_int (ty at.types t)) (is_zero z) h))
 literal_value at t (SizeOf u) h = cc
 literal_value at t (Local x) h = cc
 literal_value at t (Function f) h = cc
@@ -58,7 +59,7 @@ null_value at t (AddressOf' m e) h = cc
 null_value at t (Decay' m e) h = cc
 null_value at t (Cast' m e) h = cc
 null_value at t (Convert' m (more_of-TypedExpr u kind rest)) h =
-    rw (literal_value at u kind (and_right (is_pointer at.types t) (is_zero_literal at.types u kind) h)) (null_in (slice_get at.types.types t) (and_left (is_pointer at.types t) (is_zero_literal at.types u kind) h))
+    rw (literal_value at u kind (and_right (is_pointer (ty at.types t)) (is_zero_literal at.types u kind) h)) (null_in (ty at.types t) (and_left (is_pointer (ty at.types t)) (is_zero_literal at.types u kind) h))
 null_value at t (Unary' op m e) h = cc
 null_value at t (Binary' op m a n b) h = cc
 null_value at t (Logical' op m a n b) h = cc
@@ -102,9 +103,9 @@ pub evaluate-decay : (p : Program) (e : TypedExpr) (q q' : TypedPlace) (r : Opti
 evaluate-decay p e q q' r f g h =
     h ∙ ap if_ok (ap (start_of p) g ∙ sym (decay_value p e.ty q.ty q.kind) ∙ ap (λ k. constant_value (initial_scope p) (record { ty = e.ty; kind = k })) (sym f))
 
-convert_form : (p : Parts) (t : ℕ) (e : TypedExpr) → is_null_constant p t (Convert e) ≡ is_pointer p t && is_zero_literal p e.ty e.kind
+convert_form : (p : Parts) (t : ℕ) (e : TypedExpr) → is_null_constant p t (Convert e) ≡ is_pointer (ty p t) && is_zero_literal p e.ty e.kind
 unfolding E.shape-the_row-TypedExpr-1 E.hidden-the_row-TypedExpr-1 denote.Hole.Carrier.hidden
 convert_form p t e = refl
 
-pub null_form : (p : Parts) (t : ℕ) (form : ExprKind) (e e' : TypedExpr) (i x : Bool) → form ≡ Convert e → e' ≡ e → i ≡ is_pointer p t → x ≡ is_zero_literal p e'.ty e'.kind → i && x ≡ is_null_constant p t form
+pub null_form : (p : Parts) (t : ℕ) (form : ExprKind) (e e' : TypedExpr) (i x : Bool) → form ≡ Convert e → e' ≡ e → i ≡ is_pointer (ty p t) → x ≡ is_zero_literal p e'.ty e'.kind → i && x ≡ is_null_constant p t form
 null_form p t form e e' i x f g h k = rw (f, convert_form p t e, h, k, g) refl

@@ -8,9 +8,10 @@ use Rattle.src_model.specs.declared.expr.LogicalOperator.{LogicalOperator}
 use Rattle.src_model.specs.declared.expr.ExprKind.{Load, AddressOf, Decay, Cast, Convert, Unary, Binary, Logical, Conditional}
 use Rattle.src_model.specs.declared.expr.PlaceKind.{Deref, Arrow, Item, Element, Field, Member}
 use Rattle.src_model.specs.declared.expr.ExprKind.TheBlock as E
-use Rattle.src_model.specs.ValidTypes.{ty, is_int, points_to, is_field_of, is_member_of}
+use Rattle.src_model.specs.ValidTypes.{ty, points_to, is_field_of, is_member_of}
+use Rattle.src_model.specs.Constant.{is_zero_literal}
 use Rattle.src_model.specs.ValidInitialiser.{is_before, place_is_before}
-use Rattle.src_model.specs.ValidExpression.{Declarations, is_nought, is_outside, is_read_outside, is_expr, is_place, load_fits, address_fits, decay_fits, cast_fits, convert_fits, unary_fits, binary_fits, logical_fits, conditional_fits, item_fits, element_fits}
+use Rattle.src_model.specs.ValidExpression.{Declarations, is_outside, is_read_outside, is_expr, is_place, load_fits, address_fits, decay_fits, cast_fits, convert_fits, unary_fits, binary_fits, logical_fits, conditional_fits, item_fits, element_fits}
 
 pub outside-Element : (a : TypedPlace) (i : TypedExpr) → is_outside (Element a i) ≡ is_outside a.kind
 unfolding E.shape-the_row-TypedExpr-1 E.hidden-the_row-TypedExpr-1 E.shape-the_row-TypedPlace-0 E.hidden-the_row-TypedPlace-0 denote.Hole.Carrier.hidden
@@ -55,7 +56,7 @@ module _ (at : Declarations) (t : ℕ) where
   unfolding E.shape-the_row-TypedExpr-1 E.hidden-the_row-TypedExpr-1 E.shape-the_row-TypedPlace-0 E.hidden-the_row-TypedPlace-0 denote.Hole.Carrier.hidden
   expr-Cast e = refl
 
-  pub expr-Convert : (e : TypedExpr) → is_expr at t (Convert e) ≡ is_expr at e.ty e.kind && convert_fits at.program.types t e.ty (is_int (ty at.program.types e.ty) && is_nought e.kind)
+  pub expr-Convert : (e : TypedExpr) → is_expr at t (Convert e) ≡ is_expr at e.ty e.kind && convert_fits at.program.types t e.ty (is_zero_literal at.program.types e.ty e.kind)
   unfolding E.shape-the_row-TypedExpr-1 E.hidden-the_row-TypedExpr-1 E.shape-the_row-TypedPlace-0 E.hidden-the_row-TypedPlace-0 denote.Hole.Carrier.hidden
   expr-Convert e = refl
 

@@ -1,12 +1,9 @@
 -- Expressions whose value the text alone decides: constants of integers, null, and addresses of globals and functions.
-use Rattle.std.specs.Prelude.{ℕ, Bool, true, false, ◌&&◌, ◌||◌, if◌then◌else◌, is_some, ℤ, Option, Some, None, Ok, Err, slice_get}
+use Rattle.std.specs.Prelude.{ℕ, Bool, true, false, ◌&&◌, ◌||◌, if◌then◌else◌, ℤ, Option, Some, None, Ok, Err}
 use Rattle.lu_spec.specs.Then.{then_do}
 use Rattle.lu_base.specs.declared.trap.Trap.TheVariants.{BadCode}
 use Rattle.c_types.specs.declared.parts.Parts.{Parts}
 use Rattle.c_types.specs.declared.parts.IntKind.{IntKind}
-use Rattle.c_types.specs.declared.parts.IntKind.TheVariants as K
-use Rattle.c_types.specs.declared.parts.Ty.{Ty}
-use Rattle.c_types.specs.declared.parts.Ty.TheVariants as T
 use Rattle.src_model.specs.declared.value.Value as V
 use Rattle.src_model.specs.declared.constant.Constant.{Constant}
 use Rattle.src_model.specs.declared.constant.Constant.TheVariants as C
@@ -19,13 +16,11 @@ use Rattle.src_model.specs.Integers.{is_zero}
 use Rattle.src_model.specs.Objects.{Gives}
 use Rattle.src_model.specs.Operators.{kind_in}
 use Rattle.src_model.specs.Expression.{Scope, value_of}
+use Rattle.src_model.specs.ValidTypes.{ty, is_integer, is_int, is_pointer}
 
 -- the kind of an integer type
 abbrev pub kind_at : Parts → ℕ → Option IntKind
-kind_at p t = kind_in (slice_get p.types t)
-
-abbrev pub is_integer : Parts → ℕ → Bool
-is_integer p t = is_some (kind_at p t)
+kind_at p t = kind_in (ty p t)
 
 abbrev pub takes_integers : BinaryOperator → Bool
 takes_integers PointerAdd = false
@@ -37,48 +32,34 @@ takes_integers _ = true
 abbrev mutual
   -- an expression of numbers, characters, `sizeof`, casts, conversions and operators, each node of an integer type
   pub is_integer_constant : Parts → ℕ → ExprKind → Bool
-  is_integer_constant p t (Number z) = is_integer p t
-  is_integer_constant p t (SizeOf u) = is_integer p t
-  is_integer_constant p t (Cast' m e) = is_integer p t && is_integer_row p e
-  is_integer_constant p t (Convert' m e) = is_integer p t && is_integer_row p e
-  is_integer_constant p t (Unary' op m e) = is_integer p t && is_integer_row p e
+  is_integer_constant p t (Number z) = is_integer (ty p t)
+  is_integer_constant p t (SizeOf u) = is_integer (ty p t)
+  is_integer_constant p t (Cast' m e) = is_integer (ty p t) && is_integer_row p e
+  is_integer_constant p t (Convert' m e) = is_integer (ty p t) && is_integer_row p e
+  is_integer_constant p t (Unary' op m e) = is_integer (ty p t) && is_integer_row p e
   is_integer_constant p t (Binary' op m a n b) =
-      is_integer p t && takes_integers op && is_integer_row p a && is_integer_row p b
-  is_integer_constant p t (Logical' op m a n b) = is_integer p t && is_integer_row p a && is_integer_row p b
+      is_integer (ty p t) && takes_integers op && is_integer_row p a && is_integer_row p b
+  is_integer_constant p t (Logical' op m a n b) = is_integer (ty p t) && is_integer_row p a && is_integer_row p b
   is_integer_constant p t (Conditional' m c n a k b) =
-      is_integer p t && is_integer_row p c && is_integer_row p a && is_integer_row p b
+      is_integer (ty p t) && is_integer_row p c && is_integer_row p a && is_integer_row p b
   is_integer_constant p t _ = false
 
   pub is_integer_row : {m : _} → Parts → Row_of-TypedExpr m → Bool
   is_integer_row p end_of-TypedExpr = false
   is_integer_row p (more_of-TypedExpr t kind rest) = is_integer_constant p t kind
 
-abbrev pub is_int_kind : Option IntKind → Bool
-is_int_kind (Some K.Int) = true
-is_int_kind _ = false
-
 -- the literal 0, an int
 abbrev pub is_zero_literal : Parts → ℕ → ExprKind → Bool
-is_zero_literal p t (Number z) = is_int_kind (kind_at p t) && is_zero z
+is_zero_literal p t (Number z) = is_int (ty p t) && is_zero z
 is_zero_literal p t _ = false
 
 abbrev pub is_zero_row : {m : _} → Parts → Row_of-TypedExpr m → Bool
 is_zero_row p end_of-TypedExpr = false
 is_zero_row p (more_of-TypedExpr t kind rest) = is_zero_literal p t kind
 
-abbrev pub is_pointer_in : Option Ty → Bool
-is_pointer_in (Some (T.Pointer t)) = true
-is_pointer_in (Some T.VoidPointer) = true
-is_pointer_in (Some (T.Function g)) = true
-is_pointer_in _ = false
-
--- a pointer type or a function pointer type
-abbrev pub is_pointer : Parts → ℕ → Bool
-is_pointer p t = is_pointer_in (slice_get p.types t)
-
 -- the literal 0 as a pointer
 abbrev pub is_null_constant : Parts → ℕ → ExprKind → Bool
-is_null_constant p t (Convert' m e) = is_pointer p t && is_zero_row p e
+is_null_constant p t (Convert' m e) = is_pointer (ty p t) && is_zero_row p e
 is_null_constant p t _ = false
 
 abbrev pub is_global : PlaceKind → Bool

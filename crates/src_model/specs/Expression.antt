@@ -8,6 +8,7 @@ use Rattle.c_types.specs.declared.parts.Ty.TheVariants as T
 use Rattle.c_types.specs.declared.parts.TheConstants.{POINTER_SIZE}
 use Rattle.c_types.specs.declared.path.Step.TheVariants.{Index, Field, Member}
 use Rattle.c_types.specs.Layout.{size_of}
+use Rattle.c_types.specs.Numbering.{is_array}
 use Rattle.src_model.specs.declared.value.Value.{Value, Int, Function, out-Value}
 use Rattle.src_model.specs.declared.value.Value.TheOpen as V
 use Rattle.src_model.specs.declared.value.Store.{Store}
@@ -28,10 +29,6 @@ pub record Scope : Type 0 where
 
 abbrev pub with_store : Scope → Store → Scope
 with_store at store = record { types = at.types; store = store; locals = at.locals }
-
-abbrev pub is_array : Option Ty → Bool
-is_array (Some (T.Array t n)) = true
-is_array _ = false
 
 -- the place of a global of type t: of an array the whole, else the only element
 abbrev pub global_place : Parts → ℕ → ℕ → Place

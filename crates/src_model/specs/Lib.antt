@@ -15,6 +15,7 @@ pub mod Store
 pub mod ValueBytes
 pub mod Weight
 pub mod ValidTypes
+pub mod ValidTable
 pub mod ValidExpression
 pub mod ValidDepth
 pub mod ValidStatement

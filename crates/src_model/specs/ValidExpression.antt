@@ -1,11 +1,12 @@
 -- Expressions and places as the rules type them. `Declarations` has what they may name.
-use Rattle.std.specs.Prelude.{ℕ, zero, ◌-◌, ◌^◌, Bool, true, false, ◌&&◌, ◌||◌, not, nat_eq, nat_lt, ℤ, pos, negsuc, List, [], ◌∷◌, length, Option, Some, None, slice_get}
+use Rattle.std.specs.Prelude.{ℕ, ◌-◌, ◌^◌, Bool, true, false, ◌&&◌, ◌||◌, not, nat_eq, nat_lt, ℤ, pos, negsuc, List, [], ◌∷◌, length, Option, Some, None, slice_get}
 use Rattle.std.specs.Option.{option_map_or}
 use Rattle.c_types.specs.declared.parts.IntKind.{IntKind}
 use Rattle.c_types.specs.declared.parts.IntKind.TheVariants as K
 use Rattle.c_types.specs.declared.parts.Ty.{Ty}
 use Rattle.c_types.specs.declared.parts.Ty.TheVariants as T
 use Rattle.c_types.specs.declared.parts.Parts.{Parts}
+use Rattle.c_types.specs.Numbering.{is_array}
 use Rattle.src_model.specs.declared.expr.UnaryOperator.{UnaryOperator}
 use Rattle.src_model.specs.declared.expr.UnaryOperator.TheVariants.{Minus, Complement, Not}
 use Rattle.src_model.specs.declared.expr.BinaryOperator.{BinaryOperator}
@@ -16,8 +17,9 @@ use Rattle.src_model.specs.declared.expr.ExprKind.{ExprKind, Number, SizeOf, Loc
 use Rattle.src_model.specs.declared.expr.PlaceKind.{PlaceKind, Global, Deref', Arrow', Item', Element', Field', Member', Row_of-TypedPlace, end_of-TypedPlace, more_of-TypedPlace}
 use Rattle.src_model.specs.declared.program.Program.{Program}
 use Rattle.src_model.specs.Expression.{expr_type, place_type}
+use Rattle.src_model.specs.Constant.{is_zero_row}
 use Rattle.src_model.specs.Store.{is_function}
-use Rattle.src_model.specs.ValidTypes.{ty, is_int, is_unsigned_int, is_long_long, is_wide, is_promoted, is_object_pointer, is_ordered, is_comparable, is_scalar, is_pointer, is_array, is_array_of, points_to, is_decayed, is_field_of, is_member_of, converts, casts, is_named}
+use Rattle.src_model.specs.ValidTypes.{ty, is_int, is_unsigned_int, is_long_long, is_wide, is_promoted, is_object_pointer, is_ordered, is_comparable, is_scalar, is_pointer, is_array_of, points_to, is_decayed, is_field_of, is_member_of, converts, casts, is_named}
 
 -- a program, and of one of its functions the types of the parameters and of the locals
 pub record Declarations : Type 0 where
@@ -106,15 +108,6 @@ binary_fits p t PointerDifference a b = difference_fits p t a b
 abbrev pub conditional_fits : Parts → ℕ → ℕ → ℕ → ℕ → Bool
 conditional_fits p t c a b = is_scalar (ty p c) && (nat_eq a t && (nat_eq b t && is_comparable (ty p t)))
 
-abbrev pub is_nought : ExprKind → Bool
-is_nought (Number (pos zero)) = true
-is_nought _ = false
-
--- the literal 0
-abbrev pub is_zero_literal : {m : _} → Parts → Row_of-TypedExpr m → Bool
-is_zero_literal p end_of-TypedExpr = false
-is_zero_literal p (more_of-TypedExpr t kind rest) = is_int (ty p t) && is_nought kind
-
 -- a conversion of the type a that the text doesn't write; the literal 0 converts to any pointer
 abbrev pub convert_fits : Parts → ℕ → ℕ → Bool → Bool
 convert_fits p t a is_zero = converts (ty p a) (ty p t) || (is_pointer (ty p t) && is_zero)
@@ -166,7 +159,7 @@ abbrev mutual
   is_expr at t (AddressOf' m e) = is_place_row at e && (is_outside_row e && address_fits at.program.types t (place_type e))
   is_expr at t (Decay' m e) = is_place_row at e && (is_outside_row e && decay_fits at.program.types t (place_type e))
   is_expr at t (Cast' m e) = is_expr_row at e && cast_fits at.program.types t (expr_type e)
-  is_expr at t (Convert' m e) = is_expr_row at e && convert_fits at.program.types t (expr_type e) (is_zero_literal at.program.types e)
+  is_expr at t (Convert' m e) = is_expr_row at e && convert_fits at.program.types t (expr_type e) (is_zero_row at.program.types e)
   is_expr at t (Unary' op m e) = is_expr_row at e && unary_fits at.program.types t op (expr_type e)
   is_expr at t (Binary' op m a n b) =
       is_expr_row at a && (is_expr_row at b && binary_fits at.program.types t op (expr_type a) (expr_type b))

@@ -57,10 +57,6 @@ abbrev pub is_function_pointer : Option Ty → Bool
 is_function_pointer (Some (T.Function g)) = true
 is_function_pointer _ = false
 
-abbrev pub is_array : Option Ty → Bool
-is_array (Some (T.Array t n)) = true
-is_array _ = false
-
 -- a promoted integer or an object pointer, `void *` among them
 abbrev pub is_ordered : Option Ty → Bool
 is_ordered t = is_promoted t || (is_object_pointer t || is_void_pointer t)
@@ -72,6 +68,7 @@ is_comparable t = is_ordered t || is_function_pointer t
 abbrev pub is_scalar : Option Ty → Bool
 is_scalar t = is_integer t || is_comparable t
 
+-- a pointer to objects or to a function
 abbrev pub is_pointer : Option Ty → Bool
 is_pointer (Some (T.Pointer t)) = true
 is_pointer (Some T.VoidPointer) = true

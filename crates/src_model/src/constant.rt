@@ -1,13 +1,13 @@
 //! Expressions whose value the text alone decides, and their evaluation.
 
-ghost use Rattle.std.specs.Prelude.{◌≡◌, ℕ, Some, Ok, IsTrue, nat_lt, slice_get};
+ghost use Rattle.std.specs.Prelude.{◌≡◌, ℕ, Some, Ok, IsTrue, nat_lt};
 ghost use Rattle.lu_spec.specs.Then.{then_do};
 ghost use Rattle.c_types.specs.declared.parts.Parts.{Parts};
 ghost use Rattle.src_model.specs.declared.value.Store.{Store};
 ghost use Rattle.src_model.specs.declared.value.Value as V;
 ghost use Rattle.src_model.specs.Operators.{is_true, converted, flagged, unary, binary};
-ghost use Rattle.src_model.specs.Expression.{is_array, logical, chosen, value_of};
-ghost use Rattle.src_model.specs.Constant.{kind_at, is_integer, takes_integers, is_integer_constant, is_zero_literal, is_pointer, is_null_constant, constant_value, evaluated, int_value, if_ok};
+ghost use Rattle.src_model.specs.Expression.{logical, chosen, value_of};
+ghost use Rattle.src_model.specs.Constant.{kind_at, takes_integers, is_integer_constant, is_zero_literal, is_null_constant, constant_value, evaluated, int_value, if_ok};
 ghost use Rattle.src_model.specs.Initial.{global_count, initial_scope, start_of};
 
 use crate::expr::{
@@ -15,6 +15,8 @@ use crate::expr::{
 };
 use crate::integers;
 use crate::program::Program;
+use crate::valid_fits::type_of;
+use crate::valid_types::{is_array, is_int, is_integer, is_pointer};
 use c_types::{IntKind, Ty, TyId};
 use lu_base::Trap;
 
@@ -40,12 +42,6 @@ fn kind_at(p: &Program, number: TyId) -> Option<IntKind>
     }
 }
 
-fn is_integer(p: &Program, number: TyId) -> bool
-    ensures { result ≡ is_integer p.now.types number }
-{
-    kind_at(p, number).is_some()
-}
-
 fn takes_integers(operator: BinaryOperator) -> bool
     ensures { result ≡ takes_integers operator }
 {
@@ -63,7 +59,7 @@ fn takes_integers(operator: BinaryOperator) -> bool
 pub fn is_integer_constant(p: &Program, e: &TypedExpr) -> bool
     ensures { result ≡ is_integer_constant p.now.types e.now.ty e.now.kind }
 {
-    let is_integer = is_integer(p, e.ty);
+    let is_integer = is_integer(type_of(p, e.ty));
     match &e.kind {
         ExprKind::Number(_) | ExprKind::SizeOf(_) => is_integer,
         ExprKind::Cast(inner) => is_integer & is_integer_constant(p, inner.get()),
@@ -239,20 +235,12 @@ pub fn integer(p: &Program, e: &TypedExpr) -> Result<i128, Trap>
     }
 }
 
-fn is_zero_literal(p: &Program, e: &TypedExpr) -> bool
+/// Whether the expression is the literal 0.
+pub fn is_zero_literal(p: &Program, e: &TypedExpr) -> bool
     ensures { result ≡ is_zero_literal p.now.types e.now.ty e.now.kind }
 {
     match &e.kind {
-        ExprKind::Number(z) => kind_at(p, e.ty) == Some(IntKind::Int) && *z == 0,
-        _ => false,
-    }
-}
-
-fn is_pointer(p: &Program, number: TyId) -> bool
-    ensures { result ≡ is_pointer p.now.types number }
-{
-    match p.types.parts().find_type(number) {
-        Some(Ty::Pointer(_) | Ty::VoidPointer | Ty::Function(_)) => true,
+        ExprKind::Number(z) => is_int(type_of(p, e.ty)) && *z == 0,
         _ => false,
     }
 }
@@ -262,22 +250,13 @@ pub fn is_null_constant(p: &Program, e: &TypedExpr) -> bool
     ensures { result ≡ is_null_constant p.now.types e.now.ty e.now.kind }
 {
     match &e.kind {
-        ExprKind::Convert(inner) => is_pointer(p, e.ty) & is_zero_literal(p, inner.get()),
+        ExprKind::Convert(inner) => is_pointer(type_of(p, e.ty)) & is_zero_literal(p, inner.get()),
         ExprKind::Number(_) | ExprKind::SizeOf(_) => false,
         ExprKind::Local(_) | ExprKind::Function(_) => false,
         ExprKind::Load(_) | ExprKind::AddressOf(_) | ExprKind::Decay(_) => false,
         ExprKind::Cast(_) | ExprKind::Unary(_, _) => false,
         ExprKind::Binary(_, _, _) | ExprKind::Logical(_, _, _) => false,
         ExprKind::Conditional(_, _, _) => false,
-    }
-}
-
-fn is_array(p: &Program, number: TyId) -> bool
-    ensures { result ≡ is_array (slice_get p.now.types.types number) }
-{
-    match p.types.parts().find_type(number) {
-        Some(Ty::Array(_, _)) => true,
-        _ => false,
     }
 }
 
@@ -301,7 +280,7 @@ fn start(p: &Program, place: &TypedPlace) -> Option<Constant>
     let Some(global) = p.globals.get(number as usize) else {
         return None;
     };
-    if is_array(p, place.ty) || has_elements(p, global.ty) {
+    if is_array(type_of(p, place.ty)) || has_elements(p, global.ty) {
         Some(Constant::Start(number))
     } else {
         None

@@ -14,8 +14,6 @@ mod initial;
 mod integers;
 pub mod program;
 pub mod stmt;
-#[cfg(test)]
-mod tests;
 mod valid;
 mod valid_depth;
 mod valid_expr;

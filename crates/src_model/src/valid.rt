@@ -4,6 +4,7 @@ ghost use Rattle.std.specs.Prelude.{◌≡◌, ◌+◌, ◌≤◌, Some, length}
 ghost use Rattle.std.specs.List.{list_all, list_any};
 ghost use Rattle.c_types.specs.Words.{Tells};
 ghost use Rattle.src_model.specs.ValidTypes.{signature_is_declared, is_declared_scalar};
+ghost use Rattle.src_model.specs.ValidTable.{has_types};
 ghost use Rattle.src_model.specs.Valid as spec;
 
 use crate::program::{Function, Global, Init, Program, Site};
@@ -82,7 +83,7 @@ fn are_signatures(p: &Program) -> bool
 }
 
 fn holds_types(p: &Program) -> bool
-    ensures { result ≡ spec.has_types p.now.types }
+    ensures { result ≡ has_types p.now.types }
 {
     has_types(p.types.parts())
 }

@@ -3,10 +3,12 @@
 ghost use Rattle.std.specs.Prelude.{◌≡◌, ◌&&◌, false, nat_eq, length, slice_get};
 ghost use Rattle.std.specs.Option.{option_map_or};
 ghost use Rattle.src_model.specs.Store as store;
-ghost use Rattle.src_model.specs.ValidTypes.{ty, is_int};
+ghost use Rattle.src_model.specs.ValidTypes.{ty};
+ghost use Rattle.src_model.specs.Constant.{is_zero_literal};
 ghost use Rattle.src_model.specs.ValidExpression as spec;
 ghost use Rattle.src_model.specs.ValidSeen.{seen};
 
+use crate::constant::is_zero_literal;
 use crate::expr::{ExprKind, PlaceKind, TypedExpr, TypedPlace};
 use crate::program::{Function, Program};
 use crate::valid_fits::{
@@ -14,7 +16,7 @@ use crate::valid_fits::{
     item_fits, load_fits, logical_fits, type_of, unary_fits,
 };
 use crate::valid_types::{
-    converts, is_array, is_field_of, is_int, is_member_of, is_named, is_pointer, is_scalar,
+    converts, is_array, is_field_of, is_member_of, is_named, is_pointer, is_scalar,
     is_unsigned_int, points_to,
 };
 use c_types::{Signature, Ty, TyId};
@@ -113,20 +115,11 @@ fn is_global(p: &Program, number: u32, ty: TyId) -> bool
     }
 }
 
-fn is_nought(kind: &ExprKind) -> bool
-    ensures { result ≡ spec.is_nought kind.now }
-{
-    match kind {
-        ExprKind::Number(z) => *z == 0,
-        _ => false,
-    }
-}
-
 fn converts_to(p: &Program, to: TyId, e: &TypedExpr) -> bool
-    ensures { result ≡ spec.convert_fits p.now.types to e.now.ty (is_int (ty p.now.types e.now.ty) && spec.is_nought e.now.kind) }
+    ensures { result ≡ spec.convert_fits p.now.types to e.now.ty (is_zero_literal p.now.types e.now.ty e.now.kind) }
 {
     converts(type_of(p, e.ty), type_of(p, to))
-        || is_pointer(type_of(p, to)) && is_int(type_of(p, e.ty)) && is_nought(&e.kind)
+        || is_pointer(type_of(p, to)) && is_zero_literal(p, e)
 }
 
 /// Whether the place isn't inside a union.

@@ -3,7 +3,7 @@
 ghost use Rattle.std.specs.Prelude.{◌≡◌};
 ghost use Rattle.std.specs.List.{list_all, list_any};
 ghost use Rattle.src_model.specs.ValidTypes.{ty};
-ghost use Rattle.src_model.specs.Valid as spec;
+ghost use Rattle.src_model.specs.ValidTable as spec;
 
 use crate::valid_types::{has_stars, is_array};
 use c_types::{IntKind, Parts, Ty};

@@ -2,6 +2,7 @@
 
 ghost use Rattle.std.specs.Prelude.{◌≡◌, ◌≤◌, Some, length, slice_get};
 ghost use Rattle.std.specs.List.{list_all};
+ghost use Rattle.c_types.specs.Numbering.{is_array};
 ghost use Rattle.src_model.specs.ValidTypes as spec;
 
 use c_types::{FieldDef, IntKind, Parts, Signature, Ty, TyId};
@@ -67,7 +68,7 @@ fn is_function_pointer(ty: Option<Ty>) -> bool
 }
 
 pub fn is_array(ty: Option<Ty>) -> bool
-    ensures { result ≡ spec.is_array ty }
+    ensures { result ≡ is_array ty }
 {
     matches!(ty, Some(Ty::Array(_, _)))
 }

@@ -1,9 +1,10 @@
-use crate::{has_few_entries, pair};
 use c_types::{IntKind, Parts, Sequence, Ty, TypeTable, well_numbered};
-use lu_base::Name;
-use lu_image::{Pairing, Rename, Renames, Table};
+use lu_base::{Bytes8, Name};
 use sqlite_items::Items;
+use src_model::expr::{ExprKind, TypedExpr};
+use src_model::initial_store;
 use src_model::program::{Function, Global as GlobalVariable, Init, Program, Site};
+use src_model::stmt::{Rhs, TypedStmt};
 use std::alloc::Global;
 use std::test::Fail;
 
@@ -20,20 +21,27 @@ fn types(alloc: Global) -> Result<TypeTable, Fail> {
     Ok(TypeTable::build(alloc, parts).ok().ok_or("refused")?)
 }
 
+// int f(void) { return 7; }
 fn functions(alloc: Global) -> Result<Items<Function>, Fail> {
+    let seven = TypedExpr {
+        ty: 0,
+        kind: ExprKind::Number(7),
+    };
+    let mut body = Items::new(alloc);
+    body.push(TypedStmt::Return(Some(Rhs::Value(seven))))?;
     let mut functions = Items::new(alloc);
     functions.push(Function {
         name: 1,
         params: Items::new(alloc),
-        ret: None,
+        ret: Some(0),
         locals: Items::new(alloc),
-        body: Items::new(alloc),
+        body,
     })?;
     Ok(functions)
 }
 
-// An int of this name, and a function `f` that allocates an int.
-fn program(alloc: Global, global: Name) -> Result<Program, Fail> {
+/// An int of this name with bytes as its initialiser, a function `f`, and a site in it that allocates an int.
+pub fn program(alloc: Global, global: Name) -> Result<Program, Fail> {
     let mut names = Items::new(alloc);
     names.push(global)?;
     names.push(Name::from_ascii(alloc, b"f")?)?;
@@ -41,7 +49,7 @@ fn program(alloc: Global, global: Name) -> Result<Program, Fail> {
     globals.push(GlobalVariable {
         name: 0,
         ty: 0,
-        init: Init::Zero,
+        init: Init::Text(Bytes8::new(b"ab".to_vec(alloc)?)),
     })?;
     let mut sites = Items::new(alloc);
     sites.push(Site {
@@ -58,30 +66,21 @@ fn program(alloc: Global, global: Name) -> Result<Program, Fail> {
     })
 }
 
-fn rename(alloc: Global) -> Result<Renames, Fail> {
-    let rename = Rename {
-        table: Table::Global,
-        old: Name::from_ascii(alloc, b"a")?,
-        new: Name::from_ascii(alloc, b"b")?,
-    };
-    Ok(Renames::new(vec![in alloc; rename]?).ok_or("not in order")?)
-}
-
-fn paired(alloc: Global, old: &Program, new: &Program, renames: &Renames) -> Result<Pairing, Fail> {
-    if !has_few_entries(old) || !has_few_entries(new) {
-        return Err("too many entries".into());
-    }
-    Ok(pair(alloc, old, new, renames).ok().ok_or("refused")?)
+#[test]
+fn a_program_is_copied(rt: HostRuntime) -> Result<(), Fail> {
+    let alloc = rt.alloc();
+    let copy = program(alloc, Name::from_ascii(alloc, b"a")?)?.copy(alloc)?;
+    assert_eq!(rt; copy.names.len(), 2);
+    assert_eq!(rt; copy.globals.len(), 1);
+    assert_eq!(rt; copy.functions.len(), 1);
+    assert_eq!(rt; copy.sites.len(), 1);
+    Ok(())
 }
 
 #[test]
-fn a_rename_pairs_a_global_and_names_pair_the_rest(rt: HostRuntime) -> Result<(), Fail> {
+fn the_store_at_the_start_has_each_global(rt: HostRuntime) -> Result<(), Fail> {
     let alloc = rt.alloc();
-    let old = program(alloc, Name::from_ascii(alloc, b"a")?)?;
-    let new = program(alloc, Name::from_ascii(alloc, b"b")?)?;
-    let pairing = paired(alloc, &old, &new, &rename(alloc)?)?;
-    assert_eq!(rt; pairing.globals.as_slice(), [Some(0)].as_slice());
-    assert_eq!(rt; pairing.functions.as_slice(), [Some(0)].as_slice());
-    assert_eq!(rt; pairing.sites.as_slice(), [Some(0)].as_slice());
+    let store = initial_store(alloc, &program(alloc, Name::from_ascii(alloc, b"a")?)?)?;
+    assert_eq!(rt; store.objects.len(), 1);
     Ok(())
 }

@@ -1,6 +1,6 @@
 // Layouts against C's rules, worked by hand: pointers of 4 bytes, and each alignment as the size.
 
-use crate::{
+use c_types::{
     BuildError, FieldDef, IntKind, Parts, Path, Sequence, Signature, Step, TagDef, Ty, TypeTable,
     well_numbered,
 };
