@@ -27,3 +27,4 @@ mod valid_types;
 pub mod value;
 
 pub use initial::initial_store;
+pub use valid_table::has_types;
