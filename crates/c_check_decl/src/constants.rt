@@ -1,6 +1,6 @@
 // What a scalar global may begin with.
 
-ghost use Rattle.std.specs.Prelude.{◌≡◌, IfOk};
+ghost use Rattle.std.specs.Prelude.{◌≡◌, IfOk, is_some};
 ghost use Rattle.src_model.specs.Constant as constant;
 ghost use Rattle.src_model.specs.Initial.{initial_scope};
 ghost use Rattle.c_check_decl.specs.Globals as spec;
@@ -54,7 +54,7 @@ fn is_address(e: &TypedExpr) -> bool
 }
 
 fn has_value(types: &Program, e: &TypedExpr) -> bool
-    ensures { result ≡ Rattle.std.specs.Prelude.is_some (constant.if_ok (constant.constant_value (initial_scope types.now) e.now)) }
+    ensures { result ≡ is_some (constant.if_ok (constant.constant_value (initial_scope types.now) e.now)) }
 {
     match evaluate(types, e) {
         Some(_) => true,

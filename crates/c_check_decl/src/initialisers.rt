@@ -1,8 +1,10 @@
 // Initialisers of globals.
 
-ghost use Rattle.std.specs.Prelude.{◌≡◌, IfOk, [], Ok};
-ghost use Rattle.c_ast.specs.Trees.{initializer, initializers};
+ghost use Rattle.std.specs.Prelude.{◌≡◌, IfOk, [], Some, Ok};
+ghost use Rattle.c_ast.specs.Trees.{expression, initializer, initializers};
 ghost use Rattle.src_model.specs.ValidInitialiser as valid;
+ghost use Rattle.c_check_expr.specs.Rules as rules;
+ghost use Rattle.c_check_expr.specs.Typing.{typed};
 ghost use Rattle.c_check_decl.specs.Globals as spec;
 
 use crate::scalars::{single, text};
@@ -19,7 +21,7 @@ use src_model::program::{Init, Program};
 use std::alloc::{AllocError, Global};
 
 fn unfit_value(alloc: Global, scope: &Scope, rule: Rule, e: &Expr) -> Result<Rule, AllocError>
-    ensures { IfOk result (λ r. r ≡ Rattle.c_check_expr.specs.Rules.broken rule (Rattle.c_check_expr.specs.Typing.typed scope.now (Rattle.c_ast.specs.Trees.expression e.now))) }
+    ensures { IfOk result (λ r. r ≡ rules.broken rule (typed scope.now (expression e.now))) }
 {
     let e = denoted(alloc, scope, e)?;
     Ok(broken(rule, valued(alloc, &scope.types, e)?))
@@ -141,7 +143,7 @@ fn start_of_type(
     init: &Initializer,
 ) -> Result<Checked<Init>, AllocError>
     requires { types.now ≡ spec.types_alone scope.now.types }
-    ensures { IfOk result (λ i. i ≡ spec.start scope.now functions.now (Rattle.std.specs.Prelude.Some ty) (initializer init.now)) }
+    ensures { IfOk result (λ i. i ≡ spec.start scope.now functions.now (Some ty) (initializer init.now)) }
 {
     match init {
         Initializer::Value(e) => single(alloc, scope, types, functions, ty, e.get()),

@@ -2,6 +2,7 @@
 
 ghost use Rattle.std.specs.Prelude.{◌≡◌, ◌+◌, ◌<◌, ◌≤◌, ◌^◌};
 ghost use Rattle.c_types.specs.declared.parts.TheConstants.{POINTER_SIZE};
+ghost use Rattle.c_ast.specs.declared.types.TagKind.TheVariants.{Struct, Union};
 ghost use Rattle.c_types.specs.Layout as layout;
 ghost use Rattle.c_check_decl.specs.Records as spec;
 
@@ -66,13 +67,13 @@ fn greatest_size(table: &TypeTable, fields: &[FieldDef]) -> u32
 }
 
 fn struct_size(table: &TypeTable, fields: &[FieldDef]) -> u128
-    ensures { result ≡ spec.record_size table.now Rattle.c_ast.specs.declared.types.TagKind.TheVariants.Struct fields.now }
+    ensures { result ≡ spec.record_size table.now Struct fields.now }
 {
     next_multiple(fields_end(table, fields), greatest_align(table, fields))
 }
 
 fn union_size(table: &TypeTable, members: &[FieldDef]) -> u128
-    ensures { result ≡ spec.record_size table.now Rattle.c_ast.specs.declared.types.TagKind.TheVariants.Union members.now }
+    ensures { result ≡ spec.record_size table.now Union members.now }
 {
     let align = greatest_align(table, members);
     let start = next_multiple(MEMBER_NUMBER_SIZE as u128, align);

@@ -77,17 +77,17 @@ fn fields_of(
     alloc: Global,
     scope: &Scope,
     table: &TypeTable,
-    objects: &[Named],
+    fields: &[Named],
 ) -> Result<Checked<Sequence<FieldDef>>, AllocError>
     requires { table.now ≡ scope.now.types }
-    ensures { IfOk result (λ fields. fields ≡ spec.fields_after scope.now (Ok []) (Rattle.c_ast.specs.Trees.objects objects.now)) }
+    ensures { IfOk result (λ done. done ≡ spec.fields_after scope.now (Ok []) (objects fields.now)) }
 {
-    let mut fields: Checked<Sequence<FieldDef>> = Ok(Sequence::from_vec(Vec::new(alloc)));
-    for object in objects {
-        let next = field(alloc, scope, table, object)?;
-        fields = one_more(fields, next)?;
+    let mut done: Checked<Sequence<FieldDef>> = Ok(Sequence::from_vec(Vec::new(alloc)));
+    for named in fields {
+        let next = field(alloc, scope, table, named)?;
+        done = one_more(done, next)?;
     }
-    Ok(fields)
+    Ok(done)
 }
 
 fn names_differ(alloc: Global, fields: &[Named]) -> Result<bool, AllocError>
@@ -113,7 +113,7 @@ fn well_named(alloc: Global, fields: &[Named]) -> Result<bool, AllocError>
     }
 }
 
-#[tactic(auto, using(crate::proofs::Objects::objects_length))]
+#[tactic(auto, using(crate::proofs::FieldLists::objects_length))]
 fn few(fields: &[Named]) -> bool
     ensures { result ≡ spec.few (objects fields.now) }
 {
