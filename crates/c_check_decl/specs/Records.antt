@@ -1,0 +1,96 @@
+-- Structs and unions as they are declared: their fields, or the broken rule of the least code.
+use Rattle.std.specs.Prelude.{ℕ, ◌*◌, nat_lt, not, Bool, true, false, List, [], ◌∷◌, ◌++◌, length, Option, Some, None, is_some, Result, Ok, Err, if◌then◌else◌}
+use Rattle.std.specs.Option.{option_map_or}
+use Rattle.lu_spec.specs.Then.{then_do}
+use Rattle.c_types.specs.declared.parts.TheConstants.{POINTER_SIZE}
+use Rattle.c_types.specs.declared.parts.FieldDef.{FieldDef}
+use Rattle.c_types.specs.declared.parts.Parts.{Parts}
+use Rattle.c_types.specs.Layout.{greatest, size_of, shape_of, struct_shape, union_shape}
+use Rattle.c_ast.specs.declared.types.TagKind.{TagKind}
+use Rattle.c_ast.specs.declared.types.TagKind.TheVariants.{Struct, Union}
+use Rattle.c_ast.specs.Trees.{Text, Object, Data, Pointer}
+use Rattle.c_check_expr.specs.declared.scope.Scope.{Scope}
+use Rattle.c_check_expr.specs.declared.rule.Rule.{Rule}
+use Rattle.c_check_expr.specs.declared.rule.Rule.TheVariants.{Fields, Size, TooMany}
+use Rattle.c_check_expr.specs.Rules.{Checked, both, broken}
+use Rattle.c_check_expr.specs.Names.{number_named, with_name}
+use Rattle.c_check_type.specs.declared.objects.ObjectType.{ObjectType}
+use Rattle.c_check_type.specs.Declarators.{object_type, object_number}
+
+-- ---- fields and globals
+
+abbrev pub name_of : Object → Text
+name_of (Data t x n) = x
+name_of (Pointer t x n ps) = x
+
+-- what isn't an array is one element
+abbrev pub elements : Option ℕ → ℕ
+elements None = 1
+elements (Some n) = n
+
+-- its bytes
+unfoldable pub object_size : Parts → ObjectType → ℕ
+object_size p ty = size_of POINTER_SIZE p ty.element * elements ty.count
+
+-- of at most 1,048,576 bytes
+unfoldable pub small : Parts → Checked ObjectType → Checked ObjectType
+small p ty = then_do ty (λ t. if nat_lt greatest (object_size p t) then Err Size else Ok t)
+
+-- the type of a field or global
+unfoldable pub small_type : Scope → Object → Checked ObjectType
+small_type scope o = small scope.types (object_type scope o)
+
+-- ---- fields
+
+-- the number of a name; 0 where the text doesn't have it
+unfoldable pub name_number : Scope → Text → ℕ
+name_number scope x = option_map_or (λ k. k) (number_named scope.names x) 0
+
+unfoldable pub field : Scope → Object → Checked FieldDef
+field scope o =
+    then_do (small_type scope o) (λ t. Ok (record { name = name_number scope (name_of o); ty = object_number scope.types t }))
+
+unfoldable pub one_more : Checked (List FieldDef) → Checked FieldDef → Checked (List FieldDef)
+one_more fs f = then_do (both fs f) (λ x. Ok (x.0 ++ (x.1 ∷ [])))
+
+-- fields behind others
+abbrev pub fields_after : Scope → Checked (List FieldDef) → List Object → Checked (List FieldDef)
+fields_after scope done [] = done
+fields_after scope done (o ∷ os) = fields_after scope (one_more done (field scope o)) os
+
+-- ---- their names
+
+-- none has the name of an earlier one, where those before have these names
+abbrev pub differ_after : List Text → List Object → Bool
+differ_after seen [] = true
+differ_after seen (o ∷ os) =
+    if is_some (number_named seen (name_of o)) then false else differ_after (with_name seen (name_of o)) os
+
+-- at least one field, and no name twice
+abbrev pub well_named : List Object → Bool
+well_named [] = false
+well_named (o ∷ os) = differ_after [] (o ∷ os)
+
+-- ---- structs and unions
+
+abbrev pub record_size : Parts → TagKind → List FieldDef → ℕ
+record_size p Struct fields = (struct_shape (shape_of POINTER_SIZE p) fields).size
+record_size p Union members = (union_shape (shape_of POINTER_SIZE p) members).size
+
+-- of at most 1,048,576 bytes
+unfoldable pub small_record : Parts → TagKind → Checked (List FieldDef) → Checked (List FieldDef)
+small_record p kind fs =
+    then_do fs (λ l. if nat_lt greatest (record_size p kind l) then Err Size else Ok l)
+
+-- what is judged, with one more rule
+unfoldable pub with_rule : {A : Type 0} → Bool → Rule → Checked A → Checked A
+with_rule keeps r a = if keeps then a else Err (broken r a)
+
+-- at most 4,096 fields
+abbrev pub few : List Object → Bool
+few os = not (nat_lt 4096 (length os))
+
+-- the fields of a struct or union, or the broken rule of the least code
+unfoldable pub record_fields : Scope → TagKind → List Object → Checked (List FieldDef)
+record_fields scope kind os =
+    with_rule (well_named os) Fields (with_rule (few os) TooMany (small_record scope.types kind (fields_after scope (Ok []) os)))

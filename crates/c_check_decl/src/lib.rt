@@ -1,0 +1,13 @@
+//! Declarations without statements, in a scope: the fields of structs and unions, and globals with their initialisers;
+//! or the least code of the rules that they break.
+#![tactic(auto)]
+
+pub mod constants;
+pub mod globals;
+pub mod initialisers;
+pub mod layout;
+pub mod objects;
+pub mod records;
+pub mod scalars;
+#[cfg(test)]
+mod tests;

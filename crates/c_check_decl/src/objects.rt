@@ -1,0 +1,66 @@
+// The names and sizes of fields and globals.
+
+ghost use Rattle.std.specs.Prelude.{◌≡◌, IfOk};
+ghost use Rattle.c_ast.specs.Trees.{object};
+ghost use Rattle.c_check_decl.specs.Records as spec;
+
+use c_ast::decl::Named;
+use c_check_expr::checked::Checked;
+use c_check_expr::rule::Rule;
+use c_check_expr::scope::Scope;
+use c_check_type::objects::{ObjectType, object_type};
+use c_types::{GREATEST, TypeTable};
+use lu_base::Name;
+use std::alloc::{AllocError, Global};
+
+/// The name of a field or global.
+pub fn name_of(named: &Named) -> &Name
+    ensures { result.now ≡ spec.name_of (object named.now) }
+{
+    match named {
+        Named::Object(_, name, _) => name,
+        Named::Function(_, name, _, _) => name,
+    }
+}
+
+/// The bytes of a field or global.
+#[tactic(auto, unfolding(crate::specs::Records::object_size))]
+pub fn object_size(table: &TypeTable, ty: ObjectType) -> u64
+    ensures { result ≡ spec.object_size table.now ty }
+{
+    let size = table.size_of(ty.element) as u64;
+    match ty.count {
+        None => size,
+        Some(count) => size * count as u64,
+    }
+}
+
+#[tactic(auto, unfolding(crate::specs::Records::small))]
+fn small(table: &TypeTable, ty: Checked<ObjectType>) -> Checked<ObjectType>
+    ensures { result ≡ spec.small table.now ty }
+{
+    match ty {
+        Err(rule) => Err(rule),
+        Ok(ty) => {
+            if (GREATEST as u64) < object_size(table, ty) {
+                Err(Rule::Size)
+            } else {
+                Ok(ty)
+            }
+        }
+    }
+}
+
+/// The type of a field or global, which has at most 1,048,576 bytes.
+#[tactic(auto, unfolding(crate::specs::Records::small_type))]
+pub fn small_type(
+    alloc: Global,
+    scope: &Scope,
+    table: &TypeTable,
+    named: &Named,
+) -> Result<Checked<ObjectType>, AllocError>
+    requires { table.now ≡ scope.now.types }
+    ensures { IfOk result (λ ty. ty ≡ spec.small_type scope.now (object named.now)) }
+{
+    Ok(small(table, object_type(alloc, scope, named)?))
+}

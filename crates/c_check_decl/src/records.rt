@@ -1,0 +1,173 @@
+// Structs and unions as they are declared.
+
+ghost use Rattle.std.specs.Prelude.{◌≡◌, IfOk, [], Ok};
+ghost use Rattle.c_ast.specs.Trees.{object, objects};
+ghost use Rattle.c_check_decl.specs.Records as spec;
+
+use crate::layout::record_size;
+use crate::objects::{name_of, small_type};
+use c_ast::decl::Named;
+use c_ast::types::TagKind;
+use c_check_expr::checked::{Checked, both, broken};
+use c_check_expr::names::Names;
+use c_check_expr::rule::Rule;
+use c_check_expr::scope::Scope;
+use c_check_type::objects::object_number;
+use c_types::{FieldDef, GREATEST, Sequence, TypeTable};
+use lu_base::Name;
+use std::alloc::{AllocError, Global};
+
+/// The fields that a struct or union may have.
+pub const GREATEST_FIELDS: usize = 4_096;
+
+/// The number of a name; 0 where the text doesn't have it.
+#[tactic(auto, unfolding(crate::specs::Records::name_number))]
+pub fn name_number(scope: &Scope, name: &Name) -> Result<u32, AllocError>
+    ensures { IfOk result (λ number. number ≡ spec.name_number scope.now name.now) }
+{
+    match scope.names.number_of(name) {
+        None => Ok(0),
+        Some(number) => match u32::try_from(number) {
+            Ok(number) => Ok(number),
+            Err(_) => Err(AllocError),
+        },
+    }
+}
+
+#[tactic(auto, unfolding(crate::specs::Records::field))]
+fn field(
+    alloc: Global,
+    scope: &Scope,
+    table: &TypeTable,
+    named: &Named,
+) -> Result<Checked<FieldDef>, AllocError>
+    requires { table.now ≡ scope.now.types }
+    ensures { IfOk result (λ f. f ≡ spec.field scope.now (object named.now)) }
+{
+    match small_type(alloc, scope, table, named)? {
+        Err(rule) => Ok(Err(rule)),
+        Ok(ty) => {
+            let name = name_number(scope, name_of(named))?;
+            Ok(Ok(FieldDef {
+                name,
+                ty: object_number(&scope.types, ty),
+            }))
+        }
+    }
+}
+
+#[tactic(auto, unfolding(crate::specs::Records::one_more))]
+fn one_more(
+    done: Checked<Sequence<FieldDef>>,
+    field: Checked<FieldDef>,
+) -> Result<Checked<Sequence<FieldDef>>, AllocError>
+    ensures { IfOk result (λ fields. fields ≡ spec.one_more done field) }
+{
+    match both(done, field) {
+        Err(rule) => Ok(Err(rule)),
+        Ok((done, field)) => {
+            let mut fields = done.into_vec();
+            fields.push(field)?;
+            Ok(Ok(Sequence::from_vec(fields)))
+        }
+    }
+}
+
+fn fields_of(
+    alloc: Global,
+    scope: &Scope,
+    table: &TypeTable,
+    fields: &[Named],
+) -> Result<Checked<Sequence<FieldDef>>, AllocError>
+    requires { table.now ≡ scope.now.types }
+    ensures { IfOk result (λ done. done ≡ spec.fields_after scope.now (Ok []) (objects fields.now)) }
+{
+    let mut done: Checked<Sequence<FieldDef>> = Ok(Sequence::from_vec(Vec::new(alloc)));
+    for named in fields {
+        let next = field(alloc, scope, table, named)?;
+        done = one_more(done, next)?;
+    }
+    Ok(done)
+}
+
+fn names_differ(alloc: Global, fields: &[Named]) -> Result<bool, AllocError>
+    ensures { IfOk result (λ differ. differ ≡ spec.differ_after [] (objects fields.now)) }
+{
+    let mut seen = Names::new(alloc);
+    for field in fields {
+        let name = name_of(field);
+        if seen.number_of(name).is_some() {
+            return Ok(false);
+        }
+        seen.add(alloc, name)?;
+    }
+    Ok(true)
+}
+
+fn well_named(alloc: Global, fields: &[Named]) -> Result<bool, AllocError>
+    ensures { IfOk result (λ well. well ≡ spec.well_named (objects fields.now)) }
+{
+    match fields.split_first() {
+        None => Ok(false),
+        Some(_) => names_differ(alloc, fields),
+    }
+}
+
+#[tactic(auto, using(crate::proofs::FieldLists::objects_length))]
+fn few(fields: &[Named]) -> bool
+    ensures { result ≡ spec.few (objects fields.now) }
+{
+    fields.len() <= GREATEST_FIELDS
+}
+
+#[tactic(auto, unfolding(crate::specs::Records::with_rule))]
+fn with_rule<A: Drop>(keeps: bool, rule: Rule, judged: Checked<A>) -> Checked<A>
+    ensures { result ≡ spec.with_rule keeps rule judged }
+{
+    if keeps {
+        judged
+    } else {
+        Err(broken(rule, judged))
+    }
+}
+
+#[tactic(auto, unfolding(crate::specs::Records::small_record))]
+fn small_record(
+    table: &TypeTable,
+    kind: TagKind,
+    fields: Checked<Sequence<FieldDef>>,
+) -> Checked<Sequence<FieldDef>>
+    ensures { result ≡ spec.small_record table.now kind fields }
+{
+    match fields {
+        Err(rule) => Err(rule),
+        Ok(fields) => {
+            if (GREATEST as u128) < record_size(table, kind, fields.as_slice()) {
+                Err(Rule::Size)
+            } else {
+                Ok(fields)
+            }
+        }
+    }
+}
+
+/// The fields of a struct or union: at least one, at most 4,096, no name twice, each of at most 1,048,576 bytes, and
+/// so the whole, which is judged where each field has a type. Of the rules that are broken it is the one of the least
+/// code. A field's name has its number in the text, or 0 where it isn't there.
+#[tactic(auto, unfolding(crate::specs::Records::record_fields))]
+pub fn record_fields(
+    alloc: Global,
+    scope: &Scope,
+    table: &TypeTable,
+    kind: TagKind,
+    fields: &[Named],
+) -> Result<Checked<Sequence<FieldDef>>, AllocError>
+    requires { table.now ≡ scope.now.types }
+    ensures { IfOk result (λ judged. judged ≡ spec.record_fields scope.now kind (objects fields.now)) }
+{
+    let well_named = well_named(alloc, fields)?;
+    let judged = fields_of(alloc, scope, table, fields)?;
+    let judged = small_record(table, kind, judged);
+    let judged = with_rule(few(fields), Rule::TooMany, judged);
+    Ok(with_rule(well_named, Rule::Fields, judged))
+}
