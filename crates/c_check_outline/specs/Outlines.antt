@@ -1,5 +1,5 @@
 -- What a text declares, by name.
-use Rattle.std.specs.Prelude.{ℕ, suc, ◌+◌, Bool, true, false, List, [], ◌∷◌, ◌++◌, Option, Some, None, slice_get, slice_set, codes}
+use Rattle.std.specs.Prelude.{ℕ, ◌+◌, Bool, true, false, List, [], ◌∷◌, ◌++◌, Option, Some, None, slice_get, slice_set, codes}
 use Rattle.c_ast.specs.declared.types.TagKind.{TagKind}
 use Rattle.c_ast.specs.declared.types.TagKind.TheVariants.{Struct, Union}
 use Rattle.c_ast.specs.Trees.{Object, Data, Pointer, Declaration, Record, Global, Prototype, Definition}
@@ -106,7 +106,7 @@ declared o place (Definition t x ps body) = with_definition o x place
 
 abbrev pub declared_after : Outline → ℕ → List Declaration → Outline
 declared_after o place [] = o
-declared_after o place (d ∷ ds) = declared_after (declared o place d) (suc place) ds
+declared_after o place (d ∷ ds) = declared_after (declared o place d) (place + 1) ds
 
 -- ---- texts
 

@@ -4,6 +4,7 @@
 
 mod bodies;
 mod extents;
+mod fields;
 pub mod make;
 mod objects;
 mod records;

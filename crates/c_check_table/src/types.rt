@@ -96,9 +96,6 @@ impl TypeList {
     }
 
     pub fn copy(&self, alloc: Global) -> Result<Sequence<Ty>, AllocError> {
-        Ok(Sequence::from_vec(Vec::from_slice(
-            alloc,
-            self.set.as_slice(),
-        )?))
+        Ok(Sequence::from_vec(Vec::from_slice(alloc, self.set.as_slice())?))
     }
 }
