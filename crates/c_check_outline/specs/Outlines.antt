@@ -4,7 +4,7 @@ use Rattle.c_ast.specs.declared.types.TagKind.{TagKind}
 use Rattle.c_ast.specs.declared.types.TagKind.TheVariants.{Struct, Union}
 use Rattle.c_ast.specs.Trees.{Object, Data, Pointer, Declaration, Record, Global, Prototype, Definition}
 use Rattle.c_check_expr.specs.declared.scope.Tag.{Tag}
-use Rattle.c_check_expr.specs.Names.{Text, number_named, with_name, place_of}
+use Rattle.c_check_expr.specs.Names.{Text, number_named, place_of}
 use Rattle.c_check_outline.specs.declared.outline.Outline.{Outline}
 
 -- ---- names
@@ -13,7 +13,7 @@ use Rattle.c_check_outline.specs.declared.outline.Outline.{Outline}
 abbrev pub one_more : Outline → Text → Outline
 one_more o x =
     record {
-      names = with_name o.names x;
+      names = o.names ++ (x ∷ []);
       texts = o.texts ++ (x ∷ []);
       tags = o.tags ++ (None ∷ []);
       headings = o.headings ++ (None ∷ []);

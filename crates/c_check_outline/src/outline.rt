@@ -1,7 +1,7 @@
 // Names with what they are the tags and functions of.
 
-ghost use Rattle.std.specs.Prelude.{◌≡◌, ◌<◌, IfOk, OnOk, length};
-ghost use Rattle.c_check_expr.specs.Names.{place_of};
+ghost use Rattle.std.specs.Prelude.{◌≡◌, ◌<◌, IfOk, OnOk, None, length};
+ghost use Rattle.c_check_expr.specs.Names.{number_named, place_of};
 ghost use Rattle.c_check_outline.specs.Outlines as spec;
 
 use c_ast::types::TagKind;
@@ -53,7 +53,9 @@ impl Outline {
         }
     }
 
+    #[tactic(auto, using(crate::proofs::Places::with_name_new))]
     fn push_name(&mut self, alloc: Global, name: &Name) -> Result<usize, AllocError>
+        requires { number_named self.old.names name.now ≡ None }
         ensures outline { OnOk result (self.new ≡ spec.one_more self.old name.now) }
         ensures number { IfOk result (λ number. number ≡ place_of self.old.names name.now) }
     {

@@ -109,9 +109,10 @@ fn start(alloc: Global) -> Result<Outline, AllocError>
 }
 
 /// What a text declares, by name. Want of memory also where its declarations are too many to number.
-#[tactic(auto, unfolding(crate::specs::Outlines::outline))]
+#[tactic(auto, using(crate::proofs::SameNames::texts_are_names), unfolding(crate::specs::Outlines::outline))]
 pub fn outline(alloc: Global, declarations: &[Decl]) -> Result<Outline, AllocError>
-    ensures { IfOk result (λ o. o ≡ spec.outline (trees.declarations declarations.now)) }
+    ensures outline { IfOk result (λ o. o ≡ spec.outline (trees.declarations declarations.now)) }
+    ensures texts { IfOk result (λ o. o.texts ≡ o.names) }
 {
     let mut outline = start(alloc)?;
     add_declarations(&mut outline, alloc, declarations)?;
