@@ -1,5 +1,5 @@
 -- The texts of an outline are its names.
-use Rattle.std.proofs.Common.{◌≡◌, sym, ap, refl, ℕ, ◌+◌, Bool, true, false, List, [], ◌∷◌, ◌++◌, Option, Some, None}
+use Rattle.std.proofs.Common.{◌≡◌, ap, refl, ℕ, ◌+◌, Bool, true, false, List, [], ◌∷◌, ◌++◌, Option, Some, None}
 use Rattle.std.specs.Prelude.{slice_get, codes}
 use Rattle.c_ast.specs.declared.types.TagKind.{TagKind}
 use Rattle.c_ast.specs.declared.types.TagKind.TheVariants.{Struct, Union}
