@@ -1,0 +1,7 @@
+//! What a text of the C subset declares, by name, before any rule is judged.
+#![tactic(auto)]
+
+pub mod outline;
+#[cfg(test)]
+mod tests;
+pub mod texts;
