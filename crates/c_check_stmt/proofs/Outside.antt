@@ -45,5 +45,5 @@ mutual
   after_all-bare f s (Then a rest) = after_all-bare f (after f s a) rest ∙ after-bare f s a
 
 -- the scope behind a body
-pub body-bare : (f : Frame) (scope : Scope) (ps : Parameters) (list : Statements) → bare (after_all f (start scope ps) list).scope ≡ bare scope
-body-bare f scope ps list = after_all-bare f (start scope ps) list ∙ with_parameters-bare scope ps
+pub body_bare : (f : Frame) (scope : Scope) (ps : Parameters) (list : Statements) → bare (after_all f (start scope ps) list).scope ≡ bare scope
+body_bare f scope ps list = after_all-bare f (start scope ps) list ∙ with_parameters-bare scope ps

@@ -20,9 +20,13 @@ few scope = if nat_lt 256 (length scope.variables) then Err TooManyLocals else O
 abbrev pub start : Scope → Parameters → State
 start scope ps = record { scope = with_parameters scope ps; locals = []; sites = [] }
 
-unfoldable pub made_body : State → Checked ℕ → Checked (List TypedStmt) → Checked Body
-made_body s ps list =
-    then_do (both (both ps list) (few s.scope)) (λ v. Ok (record { locals = s.locals; sites = s.sites; statements = v.0.1 }))
+-- a body of its parts, where there aren't too many variables
+unfoldable pub whole : List ℕ → List ℕ → Checked (ℕ × List TypedStmt) → Checked ℕ → Checked Body
+whole locals sites parts count =
+    then_do (both parts count) (λ v. Ok (record { locals = locals; sites = sites; statements = v.0.1 }))
+
+abbrev pub made_body : State → Checked ℕ → Checked (List TypedStmt) → Checked Body
+made_body s ps list = whole s.locals s.sites (both ps list) (few s.scope)
 
 abbrev pub body_in : Frame → Scope → Parameters → Statements → Checked Body
 body_in f scope ps list =

@@ -22,16 +22,22 @@ made_block body = then_do body (λ list. Ok (T.Block list))
 unfoldable pub made_if : Checked TypedExpr → Checked TypedStmt → Checked TypedStmt
 made_if e a = then_do (both e a) (λ v. Ok (T.If v.0 v.1 []))
 
-unfoldable pub made_if_else : Checked TypedExpr → Checked TypedStmt → Checked TypedStmt → Checked TypedStmt
-made_if_else e a b = then_do (both (both e a) b) (λ v. Ok (T.If v.0.0 v.0.1 (v.1 ∷ [])))
+-- a condition and a statement with the statement of the `else`
+unfoldable pub with_else : Checked (TypedExpr × TypedStmt) → Checked TypedStmt → Checked TypedStmt
+with_else front b = then_do (both front b) (λ v. Ok (T.If v.0.0 v.0.1 (v.1 ∷ [])))
+
+abbrev pub made_if_else : Checked TypedExpr → Checked TypedStmt → Checked TypedStmt → Checked TypedStmt
+made_if_else e a b = with_else (both e a) b
 
 unfoldable pub made_while : Checked TypedExpr → Checked TypedStmt → Checked TypedStmt
 made_while e body = then_do (both e body) (λ v. Ok (T.While v.0 v.1))
 
--- the head of a `for`
-unfoldable pub made_head : Checked (List TypedStmt) → Checked (Option TypedExpr) → Checked (List TypedStmt) → Checked Head
-made_head first e step =
-    then_do (both (both first e) step) (λ v. Ok (record { first = v.0.0; test = v.0.1; step = v.1 }))
+-- what stands first in a `for` and its condition, with what is done after each turn
+unfoldable pub with_step : Checked (List TypedStmt × Option TypedExpr) → Checked (List TypedStmt) → Checked Head
+with_step front step = then_do (both front step) (λ v. Ok (record { first = v.0.0; test = v.0.1; step = v.1 }))
+
+abbrev pub made_head : Checked (List TypedStmt) → Checked (Option TypedExpr) → Checked (List TypedStmt) → Checked Head
+made_head first e step = with_step (both first e) step
 
 unfoldable pub made_for : Checked Head → Checked TypedStmt → Checked TypedStmt
 made_for head body = then_do (both head body) (λ v. Ok (T.For v.0.first v.0.test v.0.step v.1))

@@ -44,15 +44,15 @@ with_variable_in scope x t (Some m) = scope
 unfoldable pub with_variable : Scope → Text → ℕ → Scope
 with_variable scope x t = with_variable_in scope x t (meaning_of scope x)
 
--- the number of a variable that is declared with a type and a name
-unfoldable pub declared : Scope → Checked ℕ → Text → Checked ℕ
-declared scope ty x = then_do (both ty (fresh scope x)) (λ v. Ok v.1)
-
--- ---- parameters
-
--- the last one's number, or the broken rule of the least code
+-- the second number, or of the broken rules the one of the least code
 unfoldable pub later : Checked ℕ → Checked ℕ → Checked ℕ
 later done next = then_do (both done next) (λ v. Ok v.1)
+
+-- the number of a variable that is declared with a type and a name
+abbrev pub declared : Scope → Checked ℕ → Text → Checked ℕ
+declared scope ty x = later ty (fresh scope x)
+
+-- ---- parameters
 
 abbrev pub with_parameter : Scope → Parameter → Scope
 with_parameter scope p = with_variable scope (name_of p) (used_type scope.types (param_type scope p))

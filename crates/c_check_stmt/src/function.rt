@@ -48,7 +48,25 @@ fn bare(alloc: Global, scope: Scope) -> Scope
     }
 }
 
-#[tactic(auto, unfolding(crate::specs::Bodies::made_body))]
+#[tactic(auto, unfolding(crate::specs::Bodies::whole))]
+fn whole(
+    locals: Items<TyId>,
+    sites: Items<TyId>,
+    parts: Checked<(u32, Items<TypedStmt>)>,
+    count: Checked<usize>,
+) -> Checked<Body>
+    ensures { result ≡ spec.whole locals sites parts count }
+{
+    match both(parts, count) {
+        Err(rule) => Err(rule),
+        Ok(((_, statements), _)) => Ok(Body {
+            locals,
+            sites,
+            statements,
+        }),
+    }
+}
+
 fn judged(
     alloc: Global,
     state: State,
@@ -58,29 +76,15 @@ fn judged(
     ensures scope { result.scope ≡ variables.bare state.scope }
     ensures body { result.body ≡ spec.made_body state params list }
 {
-    let few = few(&state.scope);
+    let count = few(&state.scope);
+    let body = whole(state.locals, state.sites, both(params, list), count);
     let scope = bare(alloc, state.scope);
-    match both(both(params, list), few) {
-        Err(rule) => Judged {
-            scope,
-            body: Err(rule),
-        },
-        Ok(((_, statements), _)) => {
-            let body = Body {
-                locals: state.locals,
-                sites: state.sites,
-                statements,
-            };
-            Judged {
-                scope,
-                body: Ok(body),
-            }
-        }
-    }
+    Judged { scope, body }
 }
 
 /// The body of a function with this type of result, none for `void`, whose first allocation is at the site of the
 /// number `first_site`. The scope, which is given back, is that in front of the parameters, with the function declared.
+#[tactic(auto, using(crate::proofs::Outside::body_bare))]
 pub fn body(
     alloc: Global,
     scope: Scope,

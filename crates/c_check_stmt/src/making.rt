@@ -48,7 +48,23 @@ pub fn made_if(
     }
 }
 
-#[tactic(auto, unfolding(crate::specs::Statements::made_if_else))]
+#[tactic(auto, unfolding(crate::specs::Statements::with_else))]
+fn with_else(
+    alloc: Global,
+    front: Checked<(Boxed<TypedExpr>, Boxed<TypedStmt>)>,
+    otherwise: Checked<Boxed<TypedStmt>>,
+) -> Result<Checked<Boxed<TypedStmt>>, AllocError>
+    ensures { IfOk result (λ s. s ≡ spec.with_else front otherwise) }
+{
+    match both(front, otherwise) {
+        Err(rule) => Ok(Err(rule)),
+        Ok(((e, then), otherwise)) => {
+            let otherwise = single(alloc, otherwise)?;
+            boxed(alloc, Ok(TypedStmt::If(e.into_inner(), then, otherwise)))
+        }
+    }
+}
+
 pub fn made_if_else(
     alloc: Global,
     e: Checked<Boxed<TypedExpr>>,
@@ -57,13 +73,7 @@ pub fn made_if_else(
 ) -> Result<Checked<Boxed<TypedStmt>>, AllocError>
     ensures { IfOk result (λ s. s ≡ spec.made_if_else e then otherwise) }
 {
-    match both(both(e, then), otherwise) {
-        Err(rule) => Ok(Err(rule)),
-        Ok(((e, then), otherwise)) => {
-            let otherwise = single(alloc, otherwise)?;
-            boxed(alloc, Ok(TypedStmt::If(e.into_inner(), then, otherwise)))
-        }
-    }
+    with_else(alloc, both(e, then), otherwise)
 }
 
 #[tactic(auto, unfolding(crate::specs::Statements::made_while))]
@@ -80,7 +90,19 @@ pub fn made_while(
     }
 }
 
-#[tactic(auto, unfolding(crate::specs::Statements::made_head))]
+#[tactic(auto, unfolding(crate::specs::Statements::with_step))]
+fn with_step(
+    front: Checked<(Items<TypedStmt>, Option<Boxed<TypedExpr>>)>,
+    step: Checked<Items<TypedStmt>>,
+) -> Checked<Head>
+    ensures { result ≡ spec.with_step front step }
+{
+    match both(front, step) {
+        Err(rule) => Err(rule),
+        Ok(((first, test), step)) => Ok(Head { first, test, step }),
+    }
+}
+
 pub fn made_head(
     first: Checked<Items<TypedStmt>>,
     e: Checked<Option<Boxed<TypedExpr>>>,
@@ -88,10 +110,7 @@ pub fn made_head(
 ) -> Checked<Head>
     ensures { result ≡ spec.made_head first e step }
 {
-    match both(both(first, e), step) {
-        Err(rule) => Err(rule),
-        Ok(((first, test), step)) => Ok(Head { first, test, step }),
-    }
+    with_step(both(first, e), step)
 }
 
 fn unboxed(e: Option<Boxed<TypedExpr>>) -> Option<TypedExpr>

@@ -163,17 +163,25 @@ pub fn called(
     }
 }
 
-/// A `break` or `continue`, which stands in a loop.
+/// A `break`, which stands in a loop.
 #[tactic(auto, unfolding(crate::specs::Simple::jump))]
-pub fn jump(
-    alloc: Global,
-    is_inside: bool,
-    stmt: TypedStmt,
-) -> Result<Checked<Boxed<TypedStmt>>, AllocError>
-    ensures { IfOk result (λ s. s ≡ spec.jump is_inside stmt) }
+pub fn break_off(alloc: Global, is_inside: bool) -> Result<Checked<Boxed<TypedStmt>>, AllocError>
+    ensures { IfOk result (λ s. s ≡ spec.jump is_inside TypedStmt.Break) }
 {
     if is_inside {
-        boxed(alloc, Ok(stmt))
+        boxed(alloc, Ok(TypedStmt::Break))
+    } else {
+        Ok(Err(Rule::OutsideLoop))
+    }
+}
+
+/// A `continue`, which stands in a loop.
+#[tactic(auto, unfolding(crate::specs::Simple::jump))]
+pub fn go_on(alloc: Global, is_inside: bool) -> Result<Checked<Boxed<TypedStmt>>, AllocError>
+    ensures { IfOk result (λ s. s ≡ spec.jump is_inside TypedStmt.Continue) }
+{
+    if is_inside {
+        boxed(alloc, Ok(TypedStmt::Continue))
     } else {
         Ok(Err(Rule::OutsideLoop))
     }

@@ -9,7 +9,7 @@ use sqlite_items::Items;
 use std::alloc::AllocError;
 
 /// What holds in the whole body of a function.
-#[derive(Clone, Copy, Debug, PartialEq, Eq)]
+#[derive(Clone, Copy)]
 pub struct Frame {
     /// The type of its result; none for `void`.
     pub result: Option<TyId>,

@@ -10,7 +10,7 @@ use crate::making::{
     Head, made_block, made_for, made_head, made_if, made_if_else, made_while, one_more,
 };
 use crate::simple::{
-    assignment, boxed, called, condition_if_any, jump, local, returned, setting_list,
+    assignment, boxed, break_off, called, condition_if_any, go_on, local, returned, setting_list,
 };
 use crate::state::{Frame, State};
 use c_ast::expr::Expr;
@@ -55,8 +55,8 @@ fn typed_statement(
         Stmt::For(first, e, step, body) => {
             for_loop(alloc, frame, state, first, e, step, body.get())
         }
-        Stmt::Break => jump(alloc, is_inside, TypedStmt::Break),
-        Stmt::Continue => jump(alloc, is_inside, TypedStmt::Continue),
+        Stmt::Break => break_off(alloc, is_inside),
+        Stmt::Continue => go_on(alloc, is_inside),
         Stmt::Return(rhs) => returned(alloc, frame, state, rhs),
     }
 }

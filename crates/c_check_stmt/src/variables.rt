@@ -2,6 +2,7 @@
 
 ghost use Rattle.std.specs.Prelude.{◌≡◌, IfOk, Ok};
 ghost use Rattle.c_ast.specs.Trees.{parameter, parameters};
+ghost use Rattle.c_check_type.specs.Declarators as declarators;
 ghost use Rattle.c_check_stmt.specs.Variables as spec;
 
 use crate::state::small;
@@ -70,7 +71,6 @@ fn later(done: Checked<u32>, next: Checked<u32>) -> Checked<u32>
 }
 
 /// Declares a variable of a type, unless its name is taken, and gives its number.
-#[tactic(auto, unfolding(crate::specs::Variables::declared))]
 pub fn declare(
     alloc: Global,
     scope: &mut Scope,
@@ -82,10 +82,7 @@ pub fn declare(
 {
     let used = used_type(&scope.types, ty);
     let number = add_variable(alloc, scope, name, used)?;
-    match both(ty, number) {
-        Err(rule) => Ok(Err(rule)),
-        Ok((_, number)) => Ok(Ok(number)),
-    }
+    Ok(later(ty, number))
 }
 
 fn declare_param(
@@ -93,7 +90,7 @@ fn declare_param(
     scope: &mut Scope,
     param: &Param,
 ) -> Result<Checked<u32>, AllocError>
-    ensures number { IfOk result (λ number. number ≡ spec.declared scope.old (Rattle.c_check_type.specs.Declarators.param_type scope.old (parameter param.now)) (spec.name_of (parameter param.now))) }
+    ensures number { IfOk result (λ number. number ≡ spec.declared scope.old (declarators.param_type scope.old (parameter param.now)) (spec.name_of (parameter param.now))) }
     ensures scope { IfOk result (λ _. scope.new ≡ spec.with_parameter scope.old (parameter param.now)) }
 {
     let ty = param_type(alloc, scope, param)?;
