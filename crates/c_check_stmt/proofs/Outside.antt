@@ -25,8 +25,9 @@ with_parameters-bare scope (Also p ps) =
     with_parameters-bare (with_parameter scope p) ps ∙ with_variable-bare scope _ _
 
 mutual
-  after-bare : (f : Frame) (s : State) (a : Statement) → bare (after f s a).scope ≡ bare s.scope
   unfolding after_local
+
+  after-bare : (f : Frame) (s : State) (a : Statement) → bare (after f s a).scope ≡ bare s.scope
   after-bare f s (Block list) = after_all-bare f s list
   after-bare f s Empty = refl
   after-bare f s (Local p r) = with_variable-bare s.scope _ _

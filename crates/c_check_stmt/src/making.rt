@@ -48,8 +48,9 @@ pub fn made_if(
     }
 }
 
+/// A condition and a statement with the statement of the `else`.
 #[tactic(auto, unfolding(crate::specs::Statements::with_else))]
-fn with_else(
+pub fn with_else(
     alloc: Global,
     front: Checked<(Boxed<TypedExpr>, Boxed<TypedStmt>)>,
     otherwise: Checked<Boxed<TypedStmt>>,
@@ -63,17 +64,6 @@ fn with_else(
             boxed(alloc, Ok(TypedStmt::If(e.into_inner(), then, otherwise)))
         }
     }
-}
-
-pub fn made_if_else(
-    alloc: Global,
-    e: Checked<Boxed<TypedExpr>>,
-    then: Checked<Boxed<TypedStmt>>,
-    otherwise: Checked<Boxed<TypedStmt>>,
-) -> Result<Checked<Boxed<TypedStmt>>, AllocError>
-    ensures { IfOk result (λ s. s ≡ spec.made_if_else e then otherwise) }
-{
-    with_else(alloc, both(e, then), otherwise)
 }
 
 #[tactic(auto, unfolding(crate::specs::Statements::made_while))]

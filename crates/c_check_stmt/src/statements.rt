@@ -2,12 +2,13 @@
 
 ghost use Rattle.std.specs.Prelude.{◌≡◌, IfOk, [], Ok, true};
 ghost use Rattle.c_ast.specs.Trees.{expression, expression_if_any, setting_if_any, statement, statements};
+ghost use Rattle.c_check_expr.specs.Rules.{both};
 ghost use Rattle.c_check_expr.specs.Uses as uses;
 ghost use Rattle.c_check_stmt.specs.Simple as parts;
 ghost use Rattle.c_check_stmt.specs.Statements as spec;
 
 use crate::making::{
-    Head, made_block, made_for, made_head, made_if, made_if_else, made_while, one_more,
+    Head, made_block, made_for, made_head, made_if, made_while, one_more, with_else,
 };
 use crate::simple::{
     assignment, boxed, break_off, called, condition_if_any, go_on, local, returned, setting_list,
@@ -15,10 +16,11 @@ use crate::simple::{
 use crate::state::{Frame, State};
 use c_ast::expr::Expr;
 use c_ast::stmt::{Simple, Stmt};
-use c_check_expr::checked::Checked;
+use c_check_expr::checked::{Checked, both};
 use c_check_expr::scope::Scope;
 use c_check_expr::uses::condition;
 use sqlite_items::{Boxed, Items};
+use src_model::expr::TypedExpr;
 use src_model::stmt::TypedStmt;
 use std::alloc::{AllocError, Global};
 
@@ -41,17 +43,12 @@ fn typed_statement(
         Stmt::Local(param, initial) => local(alloc, frame, state, param, initial),
         Stmt::Assign(place, rhs) => assignment(alloc, frame, state, place.get(), rhs),
         Stmt::Call(callee, args) => called(alloc, frame, state, callee.get(), args.as_slice()),
-        Stmt::If(e, then) => if_then(alloc, frame, is_inside, state, e.get(), then.get()),
-        Stmt::IfElse(e, then, otherwise) => if_else(
-            alloc,
-            frame,
-            is_inside,
-            state,
-            e.get(),
-            then.get(),
-            otherwise.get(),
-        ),
-        Stmt::While(e, body) => while_loop(alloc, frame, state, e.get(), body.get()),
+        Stmt::If(e, then) => if_then(alloc, frame, is_inside, state, then.get(), e.get()),
+        Stmt::IfElse(e, then, otherwise) => {
+            let front = front(alloc, frame, is_inside, state, then.get(), e.get())?;
+            or_else(alloc, frame, is_inside, state, otherwise.get(), front)
+        }
+        Stmt::While(e, body) => while_loop(alloc, frame, state, body.get(), e.get()),
         Stmt::For(first, e, step, body) => {
             for_loop(alloc, frame, state, first, e, step, body.get())
         }
@@ -102,8 +99,8 @@ fn if_then(
     frame: Frame,
     is_inside: bool,
     state: &mut State,
-    e: &Expr,
     then: &Stmt,
+    e: &Expr,
 ) -> Result<Checked<Boxed<TypedStmt>>, AllocError>
     ensures typed { IfOk result (λ s. s ≡ spec.made_if (uses.condition state.old.scope (expression e.now)) (spec.typed_statement frame is_inside state.old (statement then.now))) }
     ensures state { IfOk result (λ _. state.new ≡ spec.after frame state.old (statement then.now)) }
@@ -113,23 +110,39 @@ fn if_then(
     made_if(alloc, e, then)
 }
 
+/// What stands in front of an `else`.
 #[cycle(statement)]
-fn if_else(
+fn front(
     alloc: Global,
     frame: Frame,
     is_inside: bool,
     state: &mut State,
-    e: &Expr,
     then: &Stmt,
-    otherwise: &Stmt,
-) -> Result<Checked<Boxed<TypedStmt>>, AllocError>
-    ensures typed { IfOk result (λ s. s ≡ spec.made_if_else (uses.condition state.old.scope (expression e.now)) (spec.typed_statement frame is_inside state.old (statement then.now)) (spec.typed_statement frame is_inside (spec.after frame state.old (statement then.now)) (statement otherwise.now))) }
-    ensures state { IfOk result (λ _. state.new ≡ spec.after frame (spec.after frame state.old (statement then.now)) (statement otherwise.now)) }
+    e: &Expr,
+) -> Result<Checked<(Boxed<TypedExpr>, Boxed<TypedStmt>)>, AllocError>
+    ensures typed { IfOk result (λ v. v ≡ both (uses.condition state.old.scope (expression e.now)) (spec.typed_statement frame is_inside state.old (statement then.now))) }
+    ensures state { IfOk result (λ _. state.new ≡ spec.after frame state.old (statement then.now)) }
 {
     let e = condition(alloc, &state.scope, e)?;
     let then = typed_statement(alloc, frame, is_inside, state, then)?;
+    Ok(both(e, then))
+}
+
+/// An `else` behind what stands in front of it.
+#[cycle(statement)]
+fn or_else(
+    alloc: Global,
+    frame: Frame,
+    is_inside: bool,
+    state: &mut State,
+    otherwise: &Stmt,
+    front: Checked<(Boxed<TypedExpr>, Boxed<TypedStmt>)>,
+) -> Result<Checked<Boxed<TypedStmt>>, AllocError>
+    ensures typed { IfOk result (λ s. s ≡ spec.with_else front (spec.typed_statement frame is_inside state.old (statement otherwise.now))) }
+    ensures state { IfOk result (λ _. state.new ≡ spec.after frame state.old (statement otherwise.now)) }
+{
     let otherwise = typed_statement(alloc, frame, is_inside, state, otherwise)?;
-    made_if_else(alloc, e, then, otherwise)
+    with_else(alloc, front, otherwise)
 }
 
 #[cycle(statement)]
@@ -137,8 +150,8 @@ fn while_loop(
     alloc: Global,
     frame: Frame,
     state: &mut State,
-    e: &Expr,
     body: &Stmt,
+    e: &Expr,
 ) -> Result<Checked<Boxed<TypedStmt>>, AllocError>
     ensures typed { IfOk result (λ s. s ≡ spec.made_while (uses.condition state.old.scope (expression e.now)) (spec.typed_statement frame true state.old (statement body.now))) }
     ensures state { IfOk result (λ _. state.new ≡ spec.after frame state.old (statement body.now)) }
