@@ -1,6 +1,6 @@
 -- Statements leave what is declared outside their function as it was.
-use Rattle.std.proofs.Common.{◌≡◌, ◌∙◌, refl, ap, ℕ, Option, Some, None}
-use Rattle.c_ast.specs.Trees.{Text, Parameter, Parameters, NoParameter, Also, Statement, Statements, Block, Empty, Local, Assign, Call, If, IfElse, While, For, Break, Continue, Return, Done, Then}
+use Rattle.std.proofs.Common.{◌≡◌, ◌∙◌, refl, ℕ, Option, Some, None}
+use Rattle.c_ast.specs.Trees.{Text, Parameters, NoParameter, Also, Statement, Statements, Block, Empty, Local, Assign, Call, If, IfElse, While, For, Break, Continue, Return, Done, Then}
 use Rattle.c_check_expr.specs.declared.scope.Scope.{Scope}
 use Rattle.c_check_expr.specs.declared.scope.Meaning.{Meaning}
 use Rattle.c_check_expr.specs.Names.{meaning_of}

@@ -1,5 +1,5 @@
 -- The body of a function with its parameters.
-use Rattle.std.specs.Prelude.{ℕ, nat_lt, false, List, [], length, Option, Result, Ok, Err, if◌then◌else◌}
+use Rattle.std.specs.Prelude.{ℕ, nat_lt, false, List, [], length, Option, Ok, Err, if◌then◌else◌}
 use Rattle.lu_spec.specs.Then.{then_do}
 use Rattle.c_ast.specs.Trees.{Parameters, Statements}
 use Rattle.src_model.specs.declared.stmt.TypedStmt.{TypedStmt}

@@ -1,5 +1,5 @@
 -- Statements that hold no other statement.
-use Rattle.std.specs.Prelude.{ℕ, Bool, true, false, List, [], ◌∷◌, ◌++◌, Option, Some, None, Result, Ok, Err}
+use Rattle.std.specs.Prelude.{ℕ, Bool, true, false, List, [], ◌∷◌, ◌++◌, Option, Some, None, Ok, Err}
 use Rattle.lu_spec.specs.Then.{then_do}
 use Rattle.c_ast.specs.Trees.{Text, Parameter, Expression, Right, Setting}
 use Rattle.src_model.specs.declared.expr.TypedExpr.{TypedExpr}

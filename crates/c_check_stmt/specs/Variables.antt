@@ -1,5 +1,5 @@
 -- Parameters and locals in the scope of their function.
-use Rattle.std.specs.Prelude.{ℕ, List, [], ◌∷◌, ◌++◌, length, Option, Some, None, Result, Ok, Err}
+use Rattle.std.specs.Prelude.{ℕ, [], ◌∷◌, ◌++◌, length, Option, Some, None, Ok, Err}
 use Rattle.lu_spec.specs.Then.{then_do}
 use Rattle.c_types.specs.declared.parts.Parts.{Parts}
 use Rattle.c_ast.specs.Trees.{Text, Parameter, Plain, Function, Parameters, NoParameter, Also}

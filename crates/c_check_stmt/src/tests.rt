@@ -1,5 +1,6 @@
 // Bodies with the numbers of their locals and allocations, or the codes of the rules that they break.
 
+use crate::bodies::Judged;
 use crate::function::body;
 use c_ast::decl::{Ast, Decl};
 use c_check_expr::names::Names;
@@ -92,7 +93,10 @@ fn judged(alloc: Global, text: &str) -> Result<Result<(usize, usize, u32), u32>,
     };
     let scope = scope(alloc)?;
     let result_ty = if answer.stars == 0 { None } else { Some(5) };
-    let judged = body(
+    let Judged {
+        scope: _scope,
+        body,
+    } = body(
         alloc,
         scope,
         result_ty,
@@ -100,7 +104,7 @@ fn judged(alloc: Global, text: &str) -> Result<Result<(usize, usize, u32), u32>,
         params.as_slice(),
         list.as_slice(),
     )?;
-    match judged.body {
+    match body {
         Err(rule) => Ok(Err(rule.code())),
         Ok(body) => Ok(Ok((
             body.locals.len(),
