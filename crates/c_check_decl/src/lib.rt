@@ -9,5 +9,3 @@ pub mod layout;
 pub mod objects;
 pub mod records;
 pub mod scalars;
-#[cfg(test)]
-mod tests;

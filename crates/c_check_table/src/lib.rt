@@ -9,7 +9,5 @@ pub mod make;
 mod objects;
 mod records;
 mod signatures;
-#[cfg(test)]
-mod tests;
 mod types;
 mod written;

@@ -5,5 +5,3 @@
 pub mod objects;
 pub mod params;
 pub mod signatures;
-#[cfg(test)]
-mod tests;

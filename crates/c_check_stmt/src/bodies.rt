@@ -1,0 +1,24 @@
+// What a body is.
+
+use c_check_expr::checked::Checked;
+use c_check_expr::scope::Scope;
+use c_types::TyId;
+use sqlite_items::Items;
+use src_model::stmt::TypedStmt;
+
+/// The body of a function.
+#[derive(Drop)]
+pub struct Body {
+    /// The types of its locals, without the parameters.
+    pub locals: Items<TyId>,
+    /// The types of the elements of its allocations, in the order of their sites.
+    pub sites: Items<TyId>,
+    pub statements: Items<TypedStmt>,
+}
+
+/// A body, or the broken rule of the least code, with the scope outside functions.
+#[derive(Drop)]
+pub struct Judged {
+    pub scope: Scope,
+    pub body: Checked<Body>,
+}
