@@ -3,6 +3,7 @@ use Rattle.std.proofs.Common.{◌≡◌, ◌∙◌, sym, ap, refl, ℕ, suc, ◌
 use Rattle.std.specs.Prelude.{not, position, if◌then◌else◌}
 use Rattle.std.specs.List.{list_any, position_or_len}
 use Rattle.std.specs.Str.{bytes_eq}
+use Rattle.std.proofs.lemmas.List.{length-append}
 use Rattle.c_check_expr.specs.Names.{Text, number_named, with_name}
 
 some_is : (b : Bool) (m n : ℕ) → cond b (Some m) None ≡ Some n → b ≡ true
@@ -34,11 +35,15 @@ one_passes p [] h = absurd (cc)
 one_passes p (x ∷ xs) h = or_some (p x) (position_or_len p xs) (length xs) (list_any p xs) (one_passes p xs) h
 
 -- a name that isn't among them comes last
-pub with_name_new : (names : List Text) (x : Text) → number_named names x ≡ None → with_name names x ≡ names ++ (x ∷ [])
+with_name_new : (names : List Text) (x : Text) → number_named names x ≡ None → with_name names x ≡ names ++ (x ∷ [])
 unfolding number_named
 with_name_new names x h =
     ap (λ b. if b then names else names ++ (x ∷ []))
     (none_passes (bytes_eq x) names (none_is (nat_lt (position_or_len (bytes_eq x) names) (length names)) (position_or_len (bytes_eq x) names) h))
+
+-- and then they are one more
+pub with_name_more : (names : List Text) (x : Text) → number_named names x ≡ None → length (with_name names x) ≡ length names + 1
+with_name_more names x h = ap length (with_name_new names x h) ∙ length-append names (x ∷ [])
 
 -- a name that is among them changes nothing
 pub with_name_old : (names : List Text) (x : Text) (n : ℕ) → number_named names x ≡ Some n → with_name names x ≡ names

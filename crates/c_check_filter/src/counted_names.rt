@@ -57,7 +57,7 @@ impl CountedNames {
         names
     }
 
-    #[tactic(auto, using(crate::proofs::Names::with_name_new))]
+    #[tactic(auto, using(crate::proofs::Names::with_name_more))]
     fn push(&mut self, alloc: Global, name: &Name) -> Result<(), AllocError>
         requires { number_named self.old name.now ≡ None }
         ensures { OnOk result (self.new ≡ with_name self.old name.now) }

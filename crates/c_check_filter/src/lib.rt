@@ -6,6 +6,7 @@ pub mod checking;
 pub mod counted_names;
 pub mod error;
 pub mod meanings;
+pub mod numbers;
 pub mod program_scope;
 pub mod tags;
 #[cfg(test)]

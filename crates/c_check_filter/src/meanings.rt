@@ -1,9 +1,10 @@
 // What the names of a program mean.
 
-ghost use Rattle.std.specs.Prelude.{◌≡◌, ◌+◌, IfOk, OnOk, None, replicate};
+ghost use Rattle.std.specs.Prelude.{◌≡◌, IfOk, OnOk, None, replicate};
 ghost use Rattle.c_check_filter.specs.ProgramScope as spec;
 
 use crate::counted_names::CountedNames;
+use crate::numbers::next;
 use c_check_expr::scope::{BuiltIn, Meaning};
 use c_check_type::signatures::signature_number;
 use c_judge::types::Types;
@@ -28,16 +29,6 @@ fn nothing_yet(alloc: Global, count: usize) -> Result<Items<Option<Meaning>>, Al
     Ok(Items::from_vec(vec![in alloc; None; count]?))
 }
 
-/// Want of memory where there are too many.
-fn next(number: u32) -> Result<u32, AllocError>
-    ensures { IfOk result (λ n. n ≡ number + 1) }
-{
-    match number.checked_add(1) {
-        None => Err(AllocError),
-        Some(next) => Ok(next),
-    }
-}
-
 fn add_globals(
     meanings: &mut Items<Option<Meaning>>,
     globals: &[Variable],
@@ -46,7 +37,11 @@ fn add_globals(
 {
     let mut number = 0u32;
     for global in globals {
-        set_meaning(meanings, global.name as usize, Meaning::Global(number, global.ty));
+        set_meaning(
+            meanings,
+            global.name as usize,
+            Meaning::Global(number, global.ty),
+        );
         number = next(number)?;
     }
     Ok(())

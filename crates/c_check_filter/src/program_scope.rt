@@ -14,11 +14,7 @@ use src_model::program::Program;
 use std::alloc::{AllocError, Global};
 
 #[tactic(auto, unfolding(crate::specs::ProgramScope::scope_named))]
-fn scope_named(
-    alloc: Global,
-    program: &Program,
-    names: CountedNames,
-) -> Result<Scope, AllocError>
+fn scope_named(alloc: Global, program: &Program, names: CountedNames) -> Result<Scope, AllocError>
     ensures { IfOk result (λ scope. scope ≡ spec.scope_named program.now names) }
 {
     let types = Types::new(alloc, &program.types)?;

@@ -4,6 +4,7 @@ ghost use Rattle.std.specs.Prelude.{◌≡◌, IfOk, OnOk, Some, None, replicate
 ghost use Rattle.c_check_filter.specs.ProgramScope as spec;
 
 use crate::counted_names::CountedNames;
+use crate::numbers::next;
 use c_ast::types::TagKind;
 use c_check_expr::scope::Tag;
 use c_judge::types::Types;
@@ -43,10 +44,7 @@ fn add_tags(
     let mut number = 0u32;
     for definition in definitions {
         set_tag(tags, definition.tag as usize, kind, number);
-        let Some(next) = number.checked_add(1) else {
-            return Err(AllocError);
-        };
-        number = next;
+        number = next(number)?;
     }
     Ok(())
 }

@@ -3,21 +3,42 @@
 use crate::checking::check_expr;
 use crate::error::CheckError;
 use c_ast::expr::Expr;
-use c_types::{IntKind, Parts, Sequence, Ty, TypeTable, well_numbered};
+use c_ast::types::{BaseType, TagKind, TypeName};
+use c_types::{
+    FieldDef, IntKind, Parts, Sequence, Signature, TagDef, Ty, TypeTable, well_numbered,
+};
 use lu_base::Name;
 use sqlite_items::Items;
-use src_model::expr::{ExprKind, PlaceKind, TypedExpr};
-use src_model::program::{Global as Variable, Init, Program};
-use std::alloc::Global;
+use src_model::program::{Function, Global as Variable, Init, Program};
+use std::alloc::{AllocError, Global};
 use std::test::Fail;
 
-fn int_types(alloc: Global) -> Result<TypeTable, Fail> {
-    let parts = Parts {
-        types: Sequence::from_vec(vec![in alloc; Ty::Int(IntKind::Int)]?),
-        structs: Sequence::from_vec(Vec::new(alloc)),
+/// `struct node { int count; }`, `int`, `unsigned int` and functions `void (void)`.
+fn parts(alloc: Global) -> Result<Parts, AllocError> {
+    let types = [
+        Ty::Int(IntKind::Int),
+        Ty::Int(IntKind::UInt),
+        Ty::Struct(0),
+        Ty::Function(0),
+    ];
+    let fields = Sequence::from_vec(vec![in alloc; FieldDef { name: 1, ty: 0 }]?);
+    let mut structs = Vec::new(alloc);
+    structs.push(TagDef { tag: 0, fields })?;
+    let mut signatures = Vec::new(alloc);
+    signatures.push(Signature {
+        result: None,
+        params: Sequence::from_vec(Vec::new(alloc)),
+    })?;
+    Ok(Parts {
+        types: Sequence::from_vec(Vec::from_slice(alloc, types.as_slice())?),
+        structs: Sequence::from_vec(structs),
         unions: Sequence::from_vec(Vec::new(alloc)),
-        signatures: Sequence::from_vec(Vec::new(alloc)),
-    };
+        signatures: Sequence::from_vec(signatures),
+    })
+}
+
+fn types(alloc: Global) -> Result<TypeTable, Fail> {
+    let parts = parts(alloc)?;
     if !well_numbered(&parts) {
         return Err(Fail::new("not well numbered"));
     }
@@ -27,56 +48,90 @@ fn int_types(alloc: Global) -> Result<TypeTable, Fail> {
     }
 }
 
-/// `int late, count;` of which `count` alone is declared.
-fn program(alloc: Global) -> Result<Program, Fail> {
-    let types = int_types(alloc)?;
+fn named(alloc: Global, name: &str) -> Result<Name, AllocError> {
+    Ok(Name::new(String::from_str(alloc, name)?))
+}
+
+fn names(alloc: Global) -> Result<Items<Name>, AllocError> {
     let mut names = Items::new(alloc);
-    names.push(Name::new(String::from_str(alloc, "late")?))?;
-    names.push(Name::new(String::from_str(alloc, "count")?))?;
+    for name in ["node", "count", "run"] {
+        names.push(named(alloc, name)?)?;
+    }
+    Ok(names)
+}
+
+/// `int count;`
+fn globals(alloc: Global) -> Result<Items<Variable>, AllocError> {
     let mut globals = Items::new(alloc);
     globals.push(Variable {
         name: 1,
         ty: 0,
         init: Init::Zero,
     })?;
+    Ok(globals)
+}
+
+/// `void run(void) { }`
+fn functions(alloc: Global) -> Result<Items<Function>, AllocError> {
+    let mut functions = Items::new(alloc);
+    functions.push(Function {
+        name: 2,
+        params: Items::new(alloc),
+        ret: None,
+        locals: Items::new(alloc),
+        body: Items::new(alloc),
+    })?;
+    Ok(functions)
+}
+
+fn program(alloc: Global) -> Result<Program, Fail> {
+    let types = types(alloc)?;
+    let names = names(alloc)?;
+    let globals = globals(alloc)?;
+    let functions = functions(alloc)?;
     Ok(Program {
         names,
         types,
         globals,
-        functions: Items::new(alloc),
+        functions,
         sites: Items::new(alloc),
     })
 }
 
-fn is_first_global(e: &TypedExpr) -> bool {
-    match &e.kind {
-        ExprKind::Load(place) => matches!(place.get().kind, PlaceKind::Global(0)),
-        _ => false,
-    }
-}
-
-/// The code of an identifier; 0 where it is typed as global 0.
-fn code_of(alloc: Global, program: &Program, name: &str) -> Result<u32, Fail> {
-    let e = Expr::Name(Name::new(String::from_str(alloc, name)?));
-    match check_expr(alloc, program, &e) {
-        Ok(e) => {
-            if is_first_global(&e) {
-                Ok(0)
-            } else {
-                Err(Fail::new("another expression"))
-            }
-        }
-        Err(CheckError::Rule { decl: 1, code }) => Ok(code),
+/// The number of the type of an expression, or the code of the rule that it breaks.
+fn judged(alloc: Global, program: &Program, e: &Expr) -> Result<Result<u32, u32>, Fail> {
+    match check_expr(alloc, program, e) {
+        Ok(e) => Ok(Ok(e.ty)),
+        Err(CheckError::Rule { decl: 1, code }) => Ok(Err(code)),
         Err(_) => Err(Fail::new("another error")),
     }
 }
 
 #[test]
-fn names_are_typed_or_refused(rt: HostRuntime) -> Result<(), Fail> {
+fn names_have_types_or_codes(rt: HostRuntime) -> Result<(), Fail> {
     let alloc = rt.alloc();
     let program = program(alloc)?;
-    for (name, wanted) in [("count", 0), ("late", 11), ("other", 11), ("malloc", 20)] {
-        assert!(rt; code_of(alloc, &program, name)? == wanted, "{name}");
+    for (name, wanted) in [
+        ("count", Ok(0)),
+        ("run", Ok(3)),
+        ("node", Err(11)),
+        ("other", Err(11)),
+        ("malloc", Err(20)),
+    ] {
+        let e = Expr::Name(named(alloc, name)?);
+        assert!(rt; judged(alloc, &program, &e)? == wanted, "{name}");
+    }
+    Ok(())
+}
+
+#[test]
+fn tags_name_types(rt: HostRuntime) -> Result<(), Fail> {
+    let alloc = rt.alloc();
+    let program = program(alloc)?;
+    for (name, wanted) in [("node", Ok(1)), ("count", Err(3))] {
+        let base = BaseType::Tagged(TagKind::Struct, named(alloc, name)?);
+        let e = Expr::SizeOf(TypeName { base, stars: 0 });
+        assert!(rt; judged(alloc, &program, &e)? == wanted, "{name}");
     }
     Ok(())
 }
