@@ -1,5 +1,5 @@
 -- What the error of a refused expression says.
-use Rattle.std.specs.Prelude.{◌≡◌, ⊤, ℕ, Option, Some, None, Result, Ok, Err}
+use Rattle.std.specs.Prelude.{◌≡◌, ⊤, ℕ, Option, Some, None, Ok, Err}
 use Rattle.c_ast.specs.Trees.{Expression}
 use Rattle.src_model.specs.declared.program.Program.{Program}
 use Rattle.c_check_expr.specs.Rules.{Checked, code}
