@@ -1,0 +1,2 @@
+pub mod ProgramScope
+pub mod Refusals
