@@ -13,7 +13,7 @@ pub fn verdict(alloc: Global, text: &str) -> Result<(usize, u32), Fail> {
     match check(alloc, tree.as_slice()) {
         Ok(_) => Ok((0, 0)),
         Err(CheckError::Rule { decl, code }) => Ok((decl, code)),
-        Err(CheckError::Memory) => Err(Fail::new("out of memory")),
+        Err(CheckError::Memory) => Err(Fail::new(format!(in alloc; "out of memory: {text}")?)),
     }
 }
 
