@@ -73,7 +73,7 @@ const SITES: Form = Form {
 };
 
 #[test]
-fn fields(rt: HostRuntime) -> Result<(), Fail> {
+fn fields_are_counted(rt: HostRuntime) -> Result<(), Fail> {
     assert_eq!(rt; counted(rt.alloc(), &FIELDS, 4096)?, (0, 0));
     assert_eq!(rt; counted(rt.alloc(), &FIELDS, 4097)?, (1, 27));
     assert_eq!(rt; counted(rt.alloc(), &MEMBERS, 4097)?, (1, 27));
@@ -81,21 +81,21 @@ fn fields(rt: HostRuntime) -> Result<(), Fail> {
 }
 
 #[test]
-fn globals(rt: HostRuntime) -> Result<(), Fail> {
+fn globals_are_counted(rt: HostRuntime) -> Result<(), Fail> {
     // `m_in` and `m_out` are two more. That the last one is named shows that all before it are allowed.
     assert_eq!(rt; counted(rt.alloc(), &GLOBALS, 4095)?, (4095, 27));
     Ok(())
 }
 
 #[test]
-fn functions(rt: HostRuntime) -> Result<(), Fail> {
+fn functions_are_counted(rt: HostRuntime) -> Result<(), Fail> {
     // The handlers are the last two.
     assert_eq!(rt; counted(rt.alloc(), &FUNCTIONS, 4095)?, (4097, 27));
     Ok(())
 }
 
 #[test]
-fn sites(rt: HostRuntime) -> Result<(), Fail> {
+fn sites_are_counted(rt: HostRuntime) -> Result<(), Fail> {
     assert_eq!(rt; counted(rt.alloc(), &SITES, 4096)?, (0, 0));
     assert_eq!(rt; counted(rt.alloc(), &SITES, 4097)?, (1, 27));
     Ok(())
@@ -123,7 +123,7 @@ const LOCALS: Form = Form {
 };
 
 #[test]
-fn parameters_and_locals(rt: HostRuntime) -> Result<(), Fail> {
+fn parameters_and_locals_are_counted(rt: HostRuntime) -> Result<(), Fail> {
     for (form, greatest) in [(&PARAMETERS, 63), (&TYPE_PARAMETERS, 63), (&LOCALS, 254)] {
         assert_eq!(rt; counted(rt.alloc(), form, greatest)?, (0, 0));
         assert_eq!(rt; counted(rt.alloc(), form, greatest + 1)?, (1, 26));

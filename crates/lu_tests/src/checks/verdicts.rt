@@ -1,6 +1,7 @@
 // What the checker answers to texts, beside what its rules say of them.
 
-use c_check::check::{CheckError, check};
+use c_check::check::check;
+use c_check_filter::error::CheckError;
 use c_lex::lex;
 use c_parse::program::parse;
 use std::alloc::Global;
