@@ -1,7 +1,7 @@
 -- Lists of fields as they are declared.
 use Rattle.std.proofs.Common.{◌≡◌, refl, ap, suc, List, [], ◌∷◌, length}
 use Rattle.c_ast.specs.declared.decl.Named.{Named}
-use Rattle.c_ast.specs.Trees.{object, objects}
+use Rattle.c_ast.specs.Trees.{objects}
 
 pub objects_length : (os : List Named) → length (objects os) ≡ length os
 objects_length [] = refl

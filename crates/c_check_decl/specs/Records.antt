@@ -1,5 +1,5 @@
 -- Structs and unions as they are declared: their fields, or the broken rule of the least code.
-use Rattle.std.specs.Prelude.{ℕ, ◌*◌, nat_lt, not, Bool, true, false, List, [], ◌∷◌, ◌++◌, length, Option, Some, None, is_some, Result, Ok, Err, if◌then◌else◌}
+use Rattle.std.specs.Prelude.{ℕ, ◌*◌, nat_lt, not, Bool, true, false, List, [], ◌∷◌, ◌++◌, length, Option, Some, None, is_some, Ok, Err, if◌then◌else◌}
 use Rattle.std.specs.Option.{option_map_or}
 use Rattle.lu_spec.specs.Then.{then_do}
 use Rattle.c_types.specs.declared.parts.TheConstants.{POINTER_SIZE}
