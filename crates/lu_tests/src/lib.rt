@@ -4,6 +4,8 @@
 #[cfg(test)]
 mod checks;
 #[cfg(test)]
+mod filters;
+#[cfg(test)]
 mod layouts;
 #[cfg(test)]
 mod pairings;
