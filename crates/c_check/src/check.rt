@@ -1,0 +1,202 @@
+// The program that a text denotes.
+
+ghost use Rattle.std.specs.Prelude.{◌≡◌, IfOk, IfErr};
+ghost use Rattle.c_check_outline.specs.Outlines as outlines;
+ghost use Rattle.c_ast.specs.Trees.{declarations};
+ghost use Rattle.src_model.specs.Valid.{IsValid};
+ghost use Rattle.c_check_decl.specs.Globals as globals;
+ghost use Rattle.c_check.specs.Verdict as spec;
+ghost use Rattle.c_check.specs.Denotation as denotation;
+ghost use Rattle.c_check.specs.Denotation.{IsTableOf, Denotes, Breaks, Refuses};
+
+use crate::headings::signatures;
+use crate::standing::{Functions, Standing, start};
+use crate::verdict::{Broken, judged};
+use c_ast::decl::Decl;
+use c_check_expr::scope::Scope;
+use c_check_filter::error::CheckError;
+use c_check_known::signatures::knows_declarations;
+use c_check_known::start::start_scope;
+use c_check_known::tally::has_records;
+use c_check_outline::texts::outline;
+use c_check_table::make::make_table;
+use c_types::TypeTable;
+use sqlite_items::Items;
+use src_model::has_types;
+use src_model::program::Program;
+use std::alloc::{AllocError, Global};
+
+/// The scope before a text, with the types of a table.
+fn scope_of(alloc: Global, table: &TypeTable, text: &[Decl]) -> Result<Scope, AllocError>
+    ensures scope { IfOk result (λ s. s ≡ spec.scope_of table.now (declarations text.now)) }
+    ensures types { IfOk result (λ s. s.types ≡ table.now) }
+{
+    let outline = outline(alloc, text)?;
+    start_scope(alloc, table, outline.names, outline.tags)
+}
+
+/// The functions of a text, by the numbers of their names.
+fn functions_in(alloc: Global, scope: &Scope, text: &[Decl]) -> Result<Functions, AllocError>
+    ensures { IfOk result (λ f. f ≡ spec.functions_in scope.now (declarations text.now)) }
+{
+    let outline = outline(alloc, text)?;
+    let signatures = signatures(alloc, scope, text, outline.headings.as_slice())?;
+    Ok(Functions {
+        definitions: outline.definitions,
+        signatures,
+    })
+}
+
+/// Whether a table has the signatures, structs, unions and arrays of a text.
+#[tactic(auto, unfolding(crate::specs::Denotation::has_declarations))]
+fn has_declarations(alloc: Global, table: &TypeTable, text: &[Decl]) -> Result<bool, AllocError>
+    ensures { IfOk result (λ has. has ≡ denotation.has_declarations (spec.scope_of table.now (declarations text.now)) (declarations text.now)) }
+{
+    let scope = scope_of(alloc, table, text)?;
+    if knows_declarations(alloc, &scope, text)? {
+        let tally = has_records(alloc, table, scope, text)?;
+        Ok(tally.holds)
+    } else {
+        Ok(false)
+    }
+}
+
+/// Whether a table has the types that each program has.
+#[tactic(auto, unfolding(crate::specs::Denotation::has_common))]
+fn has_common(table: &TypeTable) -> bool
+    ensures { result ≡ denotation.has_common table.now }
+{
+    has_types(table.parts())
+}
+
+/// Whether a table has the types that each program has, and those of a text.
+fn has_text(alloc: Global, table: &TypeTable, text: &[Decl]) -> Result<bool, AllocError>
+    ensures { IfOk result (λ has. has ≡ denotation.has_text table.now (declarations text.now)) }
+{
+    if has_common(table) {
+        has_declarations(alloc, table, text)
+    } else {
+        Ok(false)
+    }
+}
+
+/// A program of these types alone.
+fn types_alone(alloc: Global, table: TypeTable) -> Program
+    ensures { result ≡ globals.types_alone table }
+{
+    Program {
+        names: Items::new(alloc),
+        types: table,
+        globals: Items::new(alloc),
+        functions: Items::new(alloc),
+        sites: Items::new(alloc),
+    }
+}
+
+/// The table of types that is made for a text. Want of memory also where none is.
+fn made_table(alloc: Global, text: &[Decl]) -> Result<TypeTable, AllocError> {
+    let outline = outline(alloc, text)?;
+    match make_table(alloc, text, &outline)? {
+        Some(table) => Ok(table),
+        None => Err(AllocError),
+    }
+}
+
+/// The table of the types of a text. Want of memory also where the table that is made hasn't all of them.
+fn table_of(alloc: Global, text: &[Decl]) -> Result<TypeTable, AllocError>
+    ensures { IfOk result (IsTableOf (declarations text.now)) }
+{
+    let table = made_table(alloc, text)?;
+    let has_text = has_text(alloc, &table, text)?;
+    let _parts = table.parts();
+    if has_text { Ok(table) } else { Err(AllocError) }
+}
+
+/// What stands after a text, judged with these types, or its first declaration that breaks a rule.
+fn judged_in(
+    alloc: Global,
+    types: &Program,
+    text: &[Decl],
+) -> Result<Result<Standing, Broken>, AllocError>
+    requires { types.now ≡ globals.types_alone types.now.types }
+    ensures standing { IfOk result (λ s. s ≡ spec.judged_in (spec.scope_of types.now.types (declarations text.now)) (declarations text.now)) }
+    ensures types { IfOk result (λ s. IfOk s (λ s. s.scope.types ≡ types.now.types)) }
+{
+    let scope = scope_of(alloc, &types.types, text)?;
+    let functions = functions_in(alloc, &scope, text)?;
+    let standing = start(alloc, &types.types, scope)?;
+    judged(alloc, types, &functions, standing, text)
+}
+
+/// The program of what stands after a text.
+fn program_of(
+    alloc: Global,
+    types: Program,
+    standing: Standing,
+    text: &[Decl],
+) -> Result<Program, AllocError>
+    requires { standing.scope.types ≡ types.types }
+    ensures program { IfOk result (λ p. p ≡ spec.program_of (outlines.outline (declarations text.now)).texts standing) }
+    ensures types { IfOk result (λ p. p.types ≡ types.types) }
+{
+    let outline = outline(alloc, text)?;
+    Ok(Program {
+        names: outline.texts,
+        types: types.types,
+        globals: standing.globals,
+        functions: standing.functions,
+        sites: standing.sites,
+    })
+}
+
+/// The program of a text, judged with the types of a table, or its first declaration that breaks a rule.
+fn verdict(
+    alloc: Global,
+    table: TypeTable,
+    text: &[Decl],
+) -> Result<Result<Program, Broken>, AllocError>
+    ensures verdict { IfOk result (λ r. r ≡ spec.verdict table (declarations text.now)) }
+    ensures types { IfOk result (λ r. IfOk r (λ p. p.types ≡ table)) }
+{
+    let types = types_alone(alloc, table);
+    match judged_in(alloc, &types, text)? {
+        Err(broken) => Ok(Err(broken)),
+        Ok(standing) => {
+            let program = program_of(alloc, types, standing, text)?;
+            Ok(Ok(program))
+        }
+    }
+}
+
+/// The program that a text denotes, or its first declaration that breaks a rule.
+fn denoted(alloc: Global, text: &[Decl]) -> Result<Result<Program, Broken>, AllocError>
+    ensures program { IfOk result (λ r. IfOk r (Denotes (declarations text.now))) }
+    ensures broken { IfOk result (λ r. IfErr r (Breaks (declarations text.now))) }
+{
+    let table = table_of(alloc, text)?;
+    let judged = verdict(alloc, table, text)?;
+    Ok(judged)
+}
+
+/// The program that a text denotes, which is valid, or the first declaration of the text that breaks a rule. Want of
+/// memory also where no table of the types of the text is made, or the program isn't valid, as where the tree of the text
+/// passes the limits of its grammar.
+pub fn check(alloc: Global, text: &[Decl]) -> Result<Program, CheckError>
+    ensures denoted { IfOk result (Denotes (declarations text.now)) }
+    ensures valid { IfOk result IsValid }
+    ensures refused { IfErr result (Refuses (declarations text.now)) }
+{
+    match denoted(alloc, text)? {
+        Err(broken) => Err(CheckError::Rule {
+            decl: broken.decl,
+            code: broken.rule.code(),
+        }),
+        Ok(program) => {
+            if program.valid() {
+                Ok(program)
+            } else {
+                Err(CheckError::Memory)
+            }
+        }
+    }
+}
