@@ -19,3 +19,4 @@ pub mod ValidRows
 pub mod ValidTypeFacts
 pub mod ValidMarks
 pub mod ValidItems
+pub mod Around

@@ -99,7 +99,8 @@ fn has_name(names: &[Name], name: &Name) -> bool
     names.iter().any(|other| name == other)
 }
 
-fn are_distinct(names: &[Name]) -> bool
+/// Whether no two of these are equal. It looks at each pair of them.
+pub fn are_distinct(names: &[Name]) -> bool
     ensures { result ≡ spec.are_distinct names.now }
 {
     let mut rest = names;
@@ -118,11 +119,11 @@ fn are_identifiers(names: &[Name]) -> bool
     names.iter().all(|name| is_identifier(name))
 }
 
-/// Whether these are distinct identifiers, fewer than 4,294,967,295.
-pub fn are_names(names: &[Name]) -> bool
-    ensures { result ≡ spec.are_names names.now }
+/// Whether these are identifiers, fewer than 4,294,967,295.
+pub fn are_few_identifiers(names: &[Name]) -> bool
+    ensures { result ≡ (nat_lt (length names.now) (2 ^ 32 - 1) && list_all spec.is_identifier names.now) }
 {
-    names.len() < u32::MAX as usize && are_identifiers(names) && are_distinct(names)
+    names.len() < u32::MAX as usize && are_identifiers(names)
 }
 
 /// Whether there is a name of the number.

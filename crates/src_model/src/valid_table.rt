@@ -1,6 +1,6 @@
 // What a valid program's table of types holds.
 
-ghost use Rattle.std.specs.Prelude.{◌≡◌};
+ghost use Rattle.std.specs.Prelude.{◌≡◌, ◌++◌};
 ghost use Rattle.std.specs.List.{list_all, list_any};
 ghost use Rattle.src_model.specs.ValidTypes.{ty};
 ghost use Rattle.src_model.specs.ValidTable as spec;
@@ -10,6 +10,11 @@ use c_types::{IntKind, Parts, Ty};
 
 /// The most stars over a type whose pointer type the table holds.
 const GREATEST_STARS: u32 = 8;
+/// The types before the structs in a table in its usual order: the integer types with nine pointer types each, and `void *`
+/// with eight.
+const BASE_TYPES: usize = 89;
+/// A type and the pointer types of at most nine stars over it.
+const WITH_POINTERS: usize = 10;
 
 fn same_kind(a: IntKind, b: IntKind) -> bool
     ensures { result ≡ spec.same_kind a b }
@@ -75,6 +80,20 @@ fn is_pointer_to(number: u64, ty: &Ty) -> bool
     }
 }
 
+/// Where a table in its usual order has the struct of the number. Unions follow structs, and the pointers to functions
+/// follow unions. It is a hint only: a search that begins there goes through the whole table all the same.
+fn usual_place(number: u64) -> usize {
+    BASE_TYPES.saturating_add(WITH_POINTERS.saturating_mul(number as usize))
+}
+
+/// The types before `start`, and those from there on. All stand before it where the table is shorter.
+#[tactic(auto, using(crate::proofs::Around::around_facts))]
+fn around(types: &[Ty], start: usize) -> (&[Ty], &[Ty])
+    ensures { result.0.now ++ result.1.now ≡ types.now }
+{
+    types.split_at(start.min(types.len()))
+}
+
 fn has_kind(parts: &Parts, kind: IntKind) -> bool
     ensures { result ≡ spec.has_kind parts.now kind }
 {
@@ -94,30 +113,55 @@ fn has_kinds(parts: &Parts) -> bool
         && has_kind(parts, IntKind::ULongLong)
 }
 
+fn holds_struct(types: &[Ty], number: u64) -> bool
+    ensures { result ≡ list_any (spec.is_struct number) types.now }
+{
+    types.iter().any(|ty| is_struct(number, ty))
+}
+
+#[tactic(auto, using(crate::proofs::Around::around_facts))]
 fn has_struct(parts: &Parts, number: u64) -> bool
     ensures { result ≡ spec.has_struct parts.now number }
 {
-    parts
-        .types
-        .as_slice()
-        .iter()
-        .any(|ty| is_struct(number, ty))
+    let (before, behind) = around(parts.types.as_slice(), usual_place(number));
+    holds_struct(behind, number) || holds_struct(before, number)
 }
 
+fn holds_union(types: &[Ty], number: u64) -> bool
+    ensures { result ≡ list_any (spec.is_union number) types.now }
+{
+    types.iter().any(|ty| is_union(number, ty))
+}
+
+#[tactic(auto, using(crate::proofs::Around::around_facts))]
 fn has_union(parts: &Parts, number: u64) -> bool
     ensures { result ≡ spec.has_union parts.now number }
 {
-    parts.types.as_slice().iter().any(|ty| is_union(number, ty))
+    let structs = parts.structs.as_slice().len() as u64;
+    let (before, behind) = around(
+        parts.types.as_slice(),
+        usual_place(number.saturating_add(structs)),
+    );
+    holds_union(behind, number) || holds_union(before, number)
 }
 
+fn holds_function_pointer(types: &[Ty], number: u64) -> bool
+    ensures { result ≡ list_any (spec.is_pointer_to_function number) types.now }
+{
+    types.iter().any(|ty| is_pointer_to_function(number, ty))
+}
+
+#[tactic(auto, using(crate::proofs::Around::around_facts))]
 fn has_function_pointer(parts: &Parts, number: u64) -> bool
     ensures { result ≡ spec.has_function_pointer parts.now number }
 {
-    parts
-        .types
-        .as_slice()
-        .iter()
-        .any(|ty| is_pointer_to_function(number, ty))
+    let structs = parts.structs.as_slice().len() as u64;
+    let unions = parts.unions.as_slice().len() as u64;
+    let (before, behind) = around(
+        parts.types.as_slice(),
+        usual_place(number.saturating_add(structs).saturating_add(unions)),
+    );
+    holds_function_pointer(behind, number) || holds_function_pointer(before, number)
 }
 
 fn has_void_pointer(parts: &Parts) -> bool
@@ -135,14 +179,18 @@ fn find(parts: &Parts, number: u64) -> Option<Ty>
     }
 }
 
+fn holds_pointer_to(types: &[Ty], number: u64) -> bool
+    ensures { result ≡ list_any (spec.is_pointer_to number) types.now }
+{
+    types.iter().any(|ty| is_pointer_to(number, ty))
+}
+
+#[tactic(auto, using(crate::proofs::Around::around_facts))]
 fn has_pointer_to(parts: &Parts, number: u64) -> bool
     ensures { result ≡ list_any (spec.is_pointer_to number) parts.now.types }
 {
-    parts
-        .types
-        .as_slice()
-        .iter()
-        .any(|ty| is_pointer_to(number, ty))
+    let (before, behind) = around(parts.types.as_slice(), (number as usize).saturating_add(1));
+    holds_pointer_to(behind, number) || holds_pointer_to(before, number)
 }
 
 fn has_pointer(parts: &Parts, number: u64) -> bool
