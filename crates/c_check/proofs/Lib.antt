@@ -1,2 +1,1 @@
 pub mod Denoting
-pub mod Texts

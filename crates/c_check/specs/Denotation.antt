@@ -6,13 +6,13 @@ use Rattle.c_types.specs.Refusal.{IsBuilt}
 use Rattle.c_ast.specs.Trees.{Declaration}
 use Rattle.src_model.specs.declared.program.Program.{Program}
 use Rattle.src_model.specs.ValidTable.{has_types}
-use Rattle.c_check_expr.specs.declared.scope.Scope.{Scope}
-use Rattle.c_check_expr.specs.Rules.{code}
+use Rattle.c_check_scope.specs.declared.scope.Scope.{Scope}
+use Rattle.c_check_scope.specs.Rules.{code}
 use Rattle.c_check_known.specs.Known.{knows_declarations}
 use Rattle.c_check_known.specs.Tally.{has_records}
 use Rattle.c_check.specs.declared.verdict.Broken.{Broken}
-use Rattle.c_check_filter.specs.declared.error.CheckError.{CheckError}
-use Rattle.c_check_filter.specs.declared.error.CheckError.TheVariants.{Rule, Memory}
+use Rattle.c_check_scope.specs.declared.error.CheckError.{CheckError}
+use Rattle.c_check_scope.specs.declared.error.CheckError.TheVariants.{Rule, Memory}
 use Rattle.c_check.specs.Verdict.{scope_of, verdict}
 
 -- the table has the types that each program has, and the signatures, structs, unions and arrays of the text

@@ -9,16 +9,16 @@ ghost use Rattle.c_check.specs.Verdict as spec;
 ghost use Rattle.c_check.specs.Denotation as denotation;
 ghost use Rattle.c_check.specs.Denotation.{IsTableOf, Denotes, Breaks, Refuses};
 
-use crate::headings::signatures;
-use crate::standing::{Functions, Standing, start};
 use crate::verdict::{Broken, judged};
 use c_ast::decl::Decl;
-use c_check_expr::scope::Scope;
-use c_check_filter::error::CheckError;
+use c_check_heading::headings::signatures;
 use c_check_known::signatures::knows_declarations;
 use c_check_known::start::start_scope;
 use c_check_known::tally::has_records;
 use c_check_outline::texts::outline;
+use c_check_scope::error::CheckError;
+use c_check_scope::scope::Scope;
+use c_check_standing::standing::{Functions, Standing, start};
 use c_check_table::make::make_table;
 use c_types::TypeTable;
 use sqlite_items::Items;
@@ -192,7 +192,7 @@ pub fn check(alloc: Global, text: &[Decl]) -> Result<Program, CheckError>
             code: broken.rule.code(),
         }),
         Ok(program) => {
-            if program.valid() {
+            if program.valid_where_distinct() {
                 Ok(program)
             } else {
                 Err(CheckError::Memory)

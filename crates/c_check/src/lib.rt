@@ -4,8 +4,4 @@
 
 pub mod check;
 mod declaration;
-mod functions;
-mod headings;
-mod records;
-pub mod standing;
 pub mod verdict;

@@ -11,11 +11,11 @@ use Rattle.src_model.specs.declared.program.Program.{Program}
 use Rattle.src_model.specs.Constant.{is_address_constant, constant_value, if_ok}
 use Rattle.src_model.specs.Initial.{initial_scope}
 use Rattle.src_model.specs.ValidInitialiser.{takes_bytes, item_type}
-use Rattle.c_check_expr.specs.declared.scope.Scope.{Scope}
-use Rattle.c_check_expr.specs.declared.rule.Rule.{Rule}
-use Rattle.c_check_expr.specs.declared.rule.Rule.TheVariants.{Undeclared, Initialiser}
-use Rattle.c_check_expr.specs.Rules.{Checked, both, broken, least}
-use Rattle.c_check_expr.specs.Names.{number_named, flat, meaning_of}
+use Rattle.c_check_scope.specs.declared.scope.Scope.{Scope}
+use Rattle.c_check_scope.specs.declared.rule.Rule.{Rule}
+use Rattle.c_check_scope.specs.declared.rule.Rule.TheVariants.{Undeclared, Initialiser}
+use Rattle.c_check_scope.specs.Rules.{Checked, both, broken, least}
+use Rattle.c_check_scope.specs.Names.{number_named, flat, meaning_of}
 use Rattle.c_check_expr.specs.Denoted.{type_at}
 use Rattle.c_check_expr.specs.Typing.{typed}
 use Rattle.c_check_expr.specs.Uses.{right_side}

@@ -8,20 +8,16 @@ use Rattle.c_types.specs.declared.parts.Parts.{Parts}
 use Rattle.c_types.specs.Layout.{greatest, size_of, shape_of, struct_shape, union_shape}
 use Rattle.c_ast.specs.declared.types.TagKind.{TagKind}
 use Rattle.c_ast.specs.declared.types.TagKind.TheVariants.{Struct, Union}
-use Rattle.c_ast.specs.Trees.{Text, Object, Data, Pointer}
-use Rattle.c_check_expr.specs.declared.scope.Scope.{Scope}
-use Rattle.c_check_expr.specs.declared.rule.Rule.{Rule}
-use Rattle.c_check_expr.specs.declared.rule.Rule.TheVariants.{Fields, Size, TooMany}
-use Rattle.c_check_expr.specs.Rules.{Checked, both, broken}
-use Rattle.c_check_expr.specs.Names.{number_named, with_name}
+use Rattle.c_ast.specs.Trees.{Text, Object}
+use Rattle.c_check_scope.specs.declared.scope.Scope.{Scope}
+use Rattle.c_check_scope.specs.declared.rule.Rule.{Rule}
+use Rattle.c_check_scope.specs.declared.rule.Rule.TheVariants.{Fields, Size, TooMany}
+use Rattle.c_check_scope.specs.Rules.{Checked, both, broken}
+use Rattle.c_check_scope.specs.Names.{number_named, with_name, object_name}
 use Rattle.c_check_type.specs.declared.objects.ObjectType.{ObjectType}
 use Rattle.c_check_type.specs.Declarators.{object_type, object_number}
 
 -- ---- fields and globals
-
-abbrev pub name_of : Object → Text
-name_of (Data t x n) = x
-name_of (Pointer t x n ps) = x
 
 -- what isn't an array is one element
 abbrev pub elements : Option ℕ → ℕ
@@ -48,7 +44,7 @@ name_number scope x = option_map_or (λ k. k) (number_named scope.names x) 0
 
 unfoldable pub field : Scope → Object → Checked FieldDef
 field scope o =
-    then_do (small_type scope o) (λ t. Ok (record { name = name_number scope (name_of o); ty = object_number scope.types t }))
+    then_do (small_type scope o) (λ t. Ok (record { name = name_number scope (object_name o); ty = object_number scope.types t }))
 
 unfoldable pub one_more : Checked (List FieldDef) → Checked FieldDef → Checked (List FieldDef)
 one_more fs f = then_do (both fs f) (λ x. Ok (x.0 ++ (x.1 ∷ [])))
@@ -64,7 +60,7 @@ fields_after scope done (o ∷ os) = fields_after scope (one_more done (field sc
 abbrev pub differ_after : List Text → List Object → Bool
 differ_after seen [] = true
 differ_after seen (o ∷ os) =
-    if is_some (number_named seen (name_of o)) then false else differ_after (with_name seen (name_of o)) os
+    if is_some (number_named seen (object_name o)) then false else differ_after (with_name seen (object_name o)) os
 
 -- at least one field, and no name twice
 abbrev pub well_named : List Object → Bool

@@ -3,18 +3,18 @@
 ghost use Rattle.std.specs.Prelude.{◌≡◌, IfOk, [], Some, Ok};
 ghost use Rattle.c_ast.specs.Trees.{expression, initializer, initializers};
 ghost use Rattle.src_model.specs.ValidInitialiser as valid;
-ghost use Rattle.c_check_expr.specs.Rules as rules;
+ghost use Rattle.c_check_scope.specs.Rules as rules;
 ghost use Rattle.c_check_expr.specs.Typing.{typed};
 ghost use Rattle.c_check_decl.specs.Globals as spec;
 
 use crate::scalars::{single, text};
 use c_ast::decl::Init as Initializer;
 use c_ast::expr::Expr;
-use c_check_expr::checked::{Checked, both, broken};
-use c_check_expr::rule::Rule;
-use c_check_expr::scope::Scope;
 use c_check_expr::typing::denoted;
 use c_check_expr::values::valued;
+use c_check_scope::checked::{Checked, both, broken};
+use c_check_scope::rule::Rule;
+use c_check_scope::scope::Scope;
 use c_types::{Parts, Ty, TyId};
 use sqlite_items::Items;
 use src_model::program::{Init, Program};

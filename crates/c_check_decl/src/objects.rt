@@ -1,27 +1,16 @@
-// The names and sizes of fields and globals.
+// The sizes of fields and globals.
 
 ghost use Rattle.std.specs.Prelude.{◌≡◌, IfOk};
 ghost use Rattle.c_ast.specs.Trees.{object};
 ghost use Rattle.c_check_decl.specs.Records as spec;
 
 use c_ast::decl::Named;
-use c_check_expr::checked::Checked;
-use c_check_expr::rule::Rule;
-use c_check_expr::scope::Scope;
+use c_check_scope::checked::Checked;
+use c_check_scope::rule::Rule;
+use c_check_scope::scope::Scope;
 use c_check_type::objects::{ObjectType, object_type};
 use c_types::{GREATEST, TypeTable};
-use lu_base::Name;
 use std::alloc::{AllocError, Global};
-
-/// The name of a field or global.
-pub fn name_of(named: &Named) -> &Name
-    ensures { result.now ≡ spec.name_of (object named.now) }
-{
-    match named {
-        Named::Object(_, name, _) => name,
-        Named::Function(_, name, _, _) => name,
-    }
-}
 
 /// The bytes of a field or global.
 #[tactic(auto, unfolding(crate::specs::Records::object_size))]

@@ -5,13 +5,14 @@ ghost use Rattle.c_ast.specs.Trees.{object, objects};
 ghost use Rattle.c_check_decl.specs.Records as spec;
 
 use crate::layout::record_size;
-use crate::objects::{name_of, small_type};
+use crate::objects::small_type;
 use c_ast::decl::Named;
 use c_ast::types::TagKind;
-use c_check_expr::checked::{Checked, both, broken};
-use c_check_expr::names::Names;
-use c_check_expr::rule::Rule;
-use c_check_expr::scope::Scope;
+use c_check_scope::checked::{Checked, both, broken};
+use c_check_scope::names::{Names, object_name};
+use c_check_scope::numbers::as_number;
+use c_check_scope::rule::Rule;
+use c_check_scope::scope::Scope;
 use c_check_type::objects::object_number;
 use c_types::{FieldDef, GREATEST, Sequence, TypeTable};
 use lu_base::Name;
@@ -27,10 +28,7 @@ pub fn name_number(scope: &Scope, name: &Name) -> Result<u32, AllocError>
 {
     match scope.names.number_of(name) {
         None => Ok(0),
-        Some(number) => match u32::try_from(number) {
-            Ok(number) => Ok(number),
-            Err(_) => Err(AllocError),
-        },
+        Some(number) => as_number(number),
     }
 }
 
@@ -47,7 +45,7 @@ fn field(
     match small_type(alloc, scope, table, named)? {
         Err(rule) => Ok(Err(rule)),
         Ok(ty) => {
-            let name = name_number(scope, name_of(named))?;
+            let name = name_number(scope, object_name(named))?;
             Ok(Ok(FieldDef {
                 name,
                 ty: object_number(&scope.types, ty),
@@ -95,7 +93,7 @@ fn names_differ(alloc: Global, fields: &[Named]) -> Result<bool, AllocError>
 {
     let mut seen = Names::new(alloc);
     for field in fields {
-        let name = name_of(field);
+        let name = object_name(field);
         if seen.number_of(name).is_some() {
             return Ok(false);
         }

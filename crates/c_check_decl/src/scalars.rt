@@ -1,17 +1,17 @@
 // Initialisers of scalars, and strings.
 
-ghost use Rattle.std.specs.Prelude.{◌≡◌, IfOk, slice_get, length};
+ghost use Rattle.std.specs.Prelude.{◌≡◌, IfOk, length};
 ghost use Rattle.c_ast.specs.Trees.{expression};
 ghost use Rattle.src_model.specs.ValidInitialiser as valid;
 ghost use Rattle.c_check_decl.specs.Globals as spec;
 
 use crate::constants::is_start_value;
 use c_ast::expr::Expr;
-use c_check_expr::checked::Checked;
-use c_check_expr::rule::{Rule, least};
-use c_check_expr::scope::Scope;
 use c_check_expr::uses::right_side;
 use c_check_expr::values::type_at;
+use c_check_scope::checked::Checked;
+use c_check_scope::rule::{Rule, least};
+use c_check_scope::scope::Scope;
 use c_types::{IntKind, Parts, Ty, TyId};
 use lu_base::{Bytes8, Name};
 use sqlite_items::Boxed;

@@ -1,8 +1,7 @@
 -- Calls: what is called, arguments, and where the built-in functions stand.
-use Rattle.std.specs.Prelude.{ℕ, zero, suc, nat_eq, Bool, true, false, ◌||◌, List, [], ◌∷◌, ◌++◌, length, Option, Some, None, is_some, Result, Ok, Err, slice_get, if◌then◌else◌}
+use Rattle.std.specs.Prelude.{ℕ, nat_eq, false, List, [], ◌∷◌, ◌++◌, length, Option, Some, None, Ok, Err, slice_get, if◌then◌else◌}
 use Rattle.lu_spec.specs.Then.{then_do}
 use Rattle.c_types.specs.declared.parts.IntKind.TheVariants as K
-use Rattle.c_types.specs.declared.parts.Ty.{Ty}
 use Rattle.c_types.specs.declared.parts.Ty.TheVariants as T
 use Rattle.c_types.specs.declared.parts.Parts.{Parts}
 use Rattle.c_types.specs.declared.parts.Signature.{Signature}
@@ -18,14 +17,13 @@ use Rattle.c_check_expr.specs.declared.denoted.Denoted.TheVariants as D
 use Rattle.c_check_expr.specs.declared.calls.Called.{Called}
 use Rattle.c_check_expr.specs.declared.calls.Called.TheVariants as C
 use Rattle.c_check_expr.specs.declared.calls.Position.{Position}
-use Rattle.c_check_expr.specs.declared.calls.Position.TheVariants.{Statement, RightSide, Return}
+use Rattle.c_check_expr.specs.declared.calls.Position.TheVariants.{Statement, RightSide}
 use Rattle.c_check_expr.specs.declared.calls.Invocation.{Invocation}
-use Rattle.c_check_expr.specs.declared.scope.Scope.{Scope}
-use Rattle.c_check_expr.specs.declared.scope.BuiltIn.{BuiltIn as Which}
-use Rattle.c_check_expr.specs.declared.scope.BuiltIn.TheVariants.{Send, Malloc, Calloc, Free, Panic}
-use Rattle.c_check_expr.specs.declared.rule.Rule.{Rule}
-use Rattle.c_check_expr.specs.declared.rule.Rule.TheVariants.{Callee, BuiltIn, VoidResult, Conversion}
-use Rattle.c_check_expr.specs.Rules.{Checked, both, broken}
+use Rattle.c_check_scope.specs.declared.scope.Scope.{Scope}
+use Rattle.c_check_scope.specs.declared.scope.BuiltIn.{BuiltIn as Which}
+use Rattle.c_check_scope.specs.declared.scope.BuiltIn.TheVariants.{Send, Malloc, Calloc, Free, Panic}
+use Rattle.c_check_scope.specs.declared.rule.Rule.TheVariants.{Callee, BuiltIn, VoidResult, Conversion}
+use Rattle.c_check_scope.specs.Rules.{Checked, both, broken}
 use Rattle.c_check_expr.specs.Denoted.{type_at, number, valued}
 use Rattle.c_check_expr.specs.Typing.{denoted, typed, named}
 use Rattle.c_check_expr.specs.Uses.{right_side}

@@ -1,9 +1,8 @@
 -- What an expression denotes, and its value.
-use Rattle.std.specs.Prelude.{ℕ, nat_eq, ℤ, pos, Bool, true, false, List, Option, Some, None, Result, Ok, Err, slice_get, if◌then◌else◌}
+use Rattle.std.specs.Prelude.{ℕ, nat_eq, pos, Bool, true, false, Option, Some, None, Ok, Err, slice_get, if◌then◌else◌}
 use Rattle.lu_spec.specs.Then.{then_do}
 use Rattle.c_types.specs.declared.parts.Ty.{Ty}
 use Rattle.c_types.specs.declared.parts.Ty.TheVariants as T
-use Rattle.c_types.specs.declared.parts.IntKind.TheVariants as K
 use Rattle.c_types.specs.declared.parts.Parts.{Parts}
 use Rattle.src_model.specs.declared.expr.TypedExpr.{TypedExpr}
 use Rattle.src_model.specs.declared.expr.TypedPlace.{TypedPlace}
@@ -15,8 +14,8 @@ use Rattle.c_judge.specs.Kinds.{element_of}
 use Rattle.c_judge.specs.Operations.{int_type}
 use Rattle.c_check_expr.specs.declared.denoted.Denoted.{Denoted}
 use Rattle.c_check_expr.specs.declared.denoted.Denoted.TheVariants as D
-use Rattle.c_check_expr.specs.declared.rule.Rule.TheVariants.{NoAddress, BuiltIn}
-use Rattle.c_check_expr.specs.Rules.{Checked}
+use Rattle.c_check_scope.specs.declared.rule.Rule.TheVariants.{NoAddress, BuiltIn}
+use Rattle.c_check_scope.specs.Rules.{Checked}
 
 abbrev pub ty_in : Option Ty → Ty
 ty_in None = int_type

@@ -1,5 +1,3 @@
-pub mod Rules
-pub mod Names
 pub mod Denoted
 pub mod Places
 pub mod Operations

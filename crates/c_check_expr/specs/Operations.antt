@@ -1,5 +1,5 @@
 -- Operators on values, casts and `?:`.
-use Rattle.std.specs.Prelude.{ℕ, Bool, true, false, List, Option, Some, None, Result, Ok, Err, if◌then◌else◌}
+use Rattle.std.specs.Prelude.{ℕ, Bool, Option, Some, None, Ok, Err, if◌then◌else◌}
 use Rattle.lu_spec.specs.Then.{then_do}
 use Rattle.c_types.specs.declared.parts.Ty.{Ty}
 use Rattle.c_types.specs.declared.parts.Parts.{Parts}
@@ -19,8 +19,8 @@ use Rattle.c_judge.specs.Conversions.{casts}
 use Rattle.c_check_expr.specs.declared.denoted.Denoted.{Denoted}
 use Rattle.c_check_expr.specs.declared.denoted.Denoted.TheVariants as D
 use Rattle.c_check_expr.specs.declared.operators.Branches.{Branches}
-use Rattle.c_check_expr.specs.declared.rule.Rule.TheVariants.{Operands, Condition, Cast}
-use Rattle.c_check_expr.specs.Rules.{Checked, both}
+use Rattle.c_check_scope.specs.declared.rule.Rule.TheVariants.{Operands, Condition, Cast}
+use Rattle.c_check_scope.specs.Rules.{Checked, both}
 use Rattle.c_check_expr.specs.Denoted.{type_at, number, value, valued, converted, operand, is_null}
 
 abbrev pub result_of : ℕ → ExprKind → Checked Denoted

@@ -1,9 +1,8 @@
 -- Places: what they are made of, and their addresses.
-use Rattle.std.specs.Prelude.{ℕ, Bool, true, false, List, Option, Some, None, Result, Ok, Err, is_some, if◌then◌else◌}
+use Rattle.std.specs.Prelude.{ℕ, Bool, true, false, Option, Some, None, Ok, Err, if◌then◌else◌}
 use Rattle.std.specs.Option.{option_map}
 use Rattle.lu_spec.specs.Then.{then_do}
 use Rattle.c_types.specs.declared.parts.IntKind.{IntKind}
-use Rattle.c_types.specs.declared.parts.Ty.{Ty}
 use Rattle.c_types.specs.declared.parts.Ty.TheVariants as T
 use Rattle.c_types.specs.declared.parts.Parts.{Parts}
 use Rattle.c_ast.specs.declared.expr.UnaryOperator.{UnaryOperator}
@@ -21,13 +20,13 @@ use Rattle.c_check_expr.specs.declared.denoted.Denoted.{Denoted}
 use Rattle.c_check_expr.specs.declared.denoted.Denoted.TheVariants as D
 use Rattle.c_check_expr.specs.declared.places.Base.{Base}
 use Rattle.c_check_expr.specs.declared.places.Base.TheVariants as B
-use Rattle.c_check_expr.specs.declared.scope.Scope.{Scope}
-use Rattle.c_check_expr.specs.declared.scope.Meaning.{Meaning}
-use Rattle.c_check_expr.specs.declared.scope.Meaning.TheVariants.{Global, Local}
-use Rattle.c_check_expr.specs.declared.rule.Rule.{Rule}
-use Rattle.c_check_expr.specs.declared.rule.Rule.TheVariants.{NotPlace, NoAddress, NoField, NoPointer, Operands}
-use Rattle.c_check_expr.specs.Rules.{Checked, both, least, or_rule}
-use Rattle.c_check_expr.specs.Names.{Text, meaning_of, part_named}
+use Rattle.c_check_scope.specs.declared.scope.Scope.{Scope}
+use Rattle.c_check_scope.specs.declared.scope.Meaning.{Meaning}
+use Rattle.c_check_scope.specs.declared.scope.Meaning.TheVariants.{Global, Local}
+use Rattle.c_check_scope.specs.declared.rule.Rule.{Rule}
+use Rattle.c_check_scope.specs.declared.rule.Rule.TheVariants.{NotPlace, NoAddress, NoField, NoPointer, Operands}
+use Rattle.c_check_scope.specs.Rules.{Checked, both, least, or_rule}
+use Rattle.c_check_scope.specs.Names.{Text, meaning_of, part_named}
 use Rattle.c_check_expr.specs.Denoted.{type_at, number, value, value_of, valued, converted}
 
 abbrev pub place : ℕ → PlaceKind → TypedPlace

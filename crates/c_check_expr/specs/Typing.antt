@@ -1,5 +1,5 @@
 -- What an expression denotes in a scope, by recursion on its text; parentheses have no meaning.
-use Rattle.std.specs.Prelude.{ℕ, zero, suc, nat_eq, ℤ, pos, Bool, true, false, ◌&&◌, ◌||◌, not, Option, Some, None, Result, Ok, Err, if◌then◌else◌}
+use Rattle.std.specs.Prelude.{ℕ, zero, suc, nat_eq, pos, Bool, true, false, ◌&&◌, ◌||◌, not, Option, Some, None, Ok, Err, if◌then◌else◌}
 use Rattle.lu_spec.specs.Then.{then_do}
 use Rattle.c_types.specs.declared.parts.IntKind.{IntKind}
 use Rattle.c_types.specs.declared.parts.IntKind.TheVariants as K
@@ -30,14 +30,14 @@ use Rattle.c_check_expr.specs.declared.denoted.Denoted.{Denoted}
 use Rattle.c_check_expr.specs.declared.denoted.Denoted.TheVariants as D
 use Rattle.c_check_expr.specs.declared.error.ExprError.{ExprError}
 use Rattle.c_check_expr.specs.declared.error.ExprError.TheVariants as X
-use Rattle.c_check_expr.specs.declared.scope.Scope.{Scope}
-use Rattle.c_check_expr.specs.declared.scope.Meaning.{Meaning}
-use Rattle.c_check_expr.specs.declared.scope.Meaning.TheVariants as S
-use Rattle.c_check_expr.specs.declared.scope.Tag.{Tag}
-use Rattle.c_check_expr.specs.declared.rule.Rule.{Rule}
-use Rattle.c_check_expr.specs.declared.rule.Rule.TheVariants.{UnknownTag, VoidValue, Undeclared}
-use Rattle.c_check_expr.specs.Rules.{Checked}
-use Rattle.c_check_expr.specs.Names.{Text, meaning_of, tag_of}
+use Rattle.c_check_scope.specs.declared.scope.Scope.{Scope}
+use Rattle.c_check_scope.specs.declared.scope.Meaning.{Meaning}
+use Rattle.c_check_scope.specs.declared.scope.Meaning.TheVariants as S
+use Rattle.c_check_scope.specs.declared.scope.Tag.{Tag}
+use Rattle.c_check_scope.specs.declared.rule.Rule.{Rule}
+use Rattle.c_check_scope.specs.declared.rule.Rule.TheVariants.{UnknownTag, VoidValue, Undeclared}
+use Rattle.c_check_scope.specs.Rules.{Checked}
+use Rattle.c_check_scope.specs.Names.{Text, meaning_of, tag_of}
 use Rattle.c_check_expr.specs.Denoted.{number as type_number, value, valued}
 use Rattle.c_check_expr.specs.Places.{placed, element, part, arrow, dereferenced, has_form, addressed}
 use Rattle.c_check_expr.specs.Operations.{result_of, promotion, inverted, operated, cast, conditional}

@@ -1,8 +1,6 @@
 -- Where statements use expressions: conditions, right sides and the places that are assigned.
-use Rattle.std.specs.Prelude.{ℕ, Bool, true, false, ◌&&◌, Option, Some, None, Result, Ok, Err, if◌then◌else◌}
+use Rattle.std.specs.Prelude.{ℕ, Bool, false, ◌&&◌, Option, Some, None, Ok, Err, if◌then◌else◌}
 use Rattle.lu_spec.specs.Then.{then_do}
-use Rattle.c_types.specs.declared.parts.Ty.{Ty}
-use Rattle.c_types.specs.declared.parts.Ty.TheVariants as T
 use Rattle.c_types.specs.declared.parts.Parts.{Parts}
 use Rattle.c_ast.specs.Trees.{Expression}
 use Rattle.src_model.specs.declared.expr.TypedExpr.{TypedExpr}
@@ -13,9 +11,9 @@ use Rattle.c_check_expr.specs.declared.denoted.Denoted.{Denoted}
 use Rattle.c_check_expr.specs.declared.denoted.Denoted.TheVariants as D
 use Rattle.c_check_expr.specs.declared.uses.Assigned.{Assigned}
 use Rattle.c_check_expr.specs.declared.uses.Assigned.TheVariants as A
-use Rattle.c_check_expr.specs.declared.scope.Scope.{Scope}
-use Rattle.c_check_expr.specs.declared.rule.Rule.TheVariants.{NotPlace, Conversion, InsideUnion}
-use Rattle.c_check_expr.specs.Rules.{Checked}
+use Rattle.c_check_scope.specs.declared.scope.Scope.{Scope}
+use Rattle.c_check_scope.specs.declared.rule.Rule.TheVariants.{NotPlace, Conversion, InsideUnion}
+use Rattle.c_check_scope.specs.Rules.{Checked}
 use Rattle.c_check_expr.specs.Denoted.{type_at, valued, converted, operand, is_null}
 use Rattle.c_check_expr.specs.Places.{has_form, unplaced}
 use Rattle.c_check_expr.specs.Operations.{scalar}

@@ -5,15 +5,14 @@ ghost use Rattle.std.specs.Option.{option_map};
 ghost use Rattle.c_ast.specs.Trees.{expression, expressions};
 ghost use Rattle.c_check_expr.specs.Calls.{pointer_callee, callee_of, params_of, answer_of, argument_at, more, gathered, arguments, size_form, elem_of, elem_in, as_statement, not_void, stands, callee_node, front, kept, made_call, call, call_value};
 
-use crate::checked::{Checked, both, broken};
 use crate::denoted::Denoted;
-use crate::rule::Rule;
-use crate::scope::{BuiltIn, Scope};
 use crate::typing::{denoted, named};
 use crate::uses::right_side;
 use crate::values::{type_at, valued};
 use c_ast::expr::Expr;
-use c_ast::types::TypeName;
+use c_check_scope::checked::{Checked, both, broken};
+use c_check_scope::rule::Rule;
+use c_check_scope::scope::{BuiltIn, Scope};
 use c_judge::conversions::converts;
 use c_judge::kinds::signature_of;
 use c_judge::operand::Operand;

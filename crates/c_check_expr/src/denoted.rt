@@ -3,8 +3,8 @@
 ghost use Rattle.std.specs.Prelude.{◌≡◌};
 ghost use Rattle.c_check_expr.specs.Denoted.{is_null};
 
-use crate::checked::Checked;
-use crate::scope::BuiltIn;
+use c_check_scope::checked::Checked;
+use c_check_scope::scope::BuiltIn;
 use c_types::TyId;
 use sqlite_items::Boxed;
 use src_model::expr::{TypedExpr, TypedPlace};

@@ -2,7 +2,7 @@
 
 ghost use Rattle.std.specs.Prelude.{◌≡◌};
 
-use crate::rule::Rule;
+use c_check_scope::rule::Rule;
 use std::alloc::AllocError;
 
 /// Why an expression isn't typed.

@@ -3,14 +3,10 @@
 #![tactic(auto)]
 
 pub mod calls;
-pub mod checked;
 pub mod denoted;
 pub mod error;
-pub mod names;
 pub mod operators;
 pub mod places;
-pub mod rule;
-pub mod scope;
 pub mod typing;
 pub mod uses;
 pub mod values;

@@ -3,11 +3,11 @@
 ghost use Rattle.std.specs.Prelude.{◌≡◌, IfOk};
 ghost use Rattle.c_check_expr.specs.Operations.{promotion, inverted, work, operation_node, operated, cast, scalar, meet, conditional};
 
-use crate::checked::{Checked, both};
 use crate::denoted::{Denoted, is_null};
-use crate::rule::Rule;
 use crate::values::{converted, node, operand, type_at, valued};
 use c_ast::expr::BinaryOperator;
+use c_check_scope::checked::{Checked, both};
+use c_check_scope::rule::Rule;
 use c_judge::conversions::casts;
 use c_judge::kinds::is_scalar;
 use c_judge::operand::{joined, promoted_type};

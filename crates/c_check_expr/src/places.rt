@@ -6,12 +6,12 @@ ghost use Rattle.c_check_expr.specs.Denoted.{type_at};
 ghost use Rattle.c_check_expr.specs.Places.{target_of, place_base, index_of, based, item, element, part_place, part_within, part, arrow, dereferenced, is_variable, is_dereference, has_form, address_in, address_of, addressed};
 ghost use Rattle.c_ast.specs.Trees.{expression};
 
-use crate::checked::{Checked, both};
 use crate::denoted::Denoted;
-use crate::rule::{Rule, least};
-use crate::scope::{Meaning, Scope};
 use crate::values::{converted, node, type_at, value_of, valued};
 use c_ast::expr::{Expr, UnaryOperator};
+use c_check_scope::checked::{Checked, both};
+use c_check_scope::rule::{Rule, least};
+use c_check_scope::scope::{Meaning, Scope};
 use c_judge::kinds::{self, element_of, kind_of};
 use c_judge::members::Part;
 use c_judge::operation::LONG_LONG;

@@ -4,15 +4,15 @@ ghost use Rattle.std.specs.Prelude.{◌≡◌, IfOk};
 ghost use Rattle.c_ast.specs.Trees.{expression};
 ghost use Rattle.c_check_expr.specs.Uses.{condition, lies_inside, given, right_value, right_side, targeted, left_side};
 
-use crate::checked::Checked;
 use crate::denoted::{Denoted, is_null};
 use crate::operators::scalar;
 use crate::places::{has_form, unplaced};
-use crate::rule::Rule;
-use crate::scope::Scope;
 use crate::typing::denoted;
 use crate::values::{converted, operand, type_at, valued};
 use c_ast::expr::Expr;
+use c_check_scope::checked::Checked;
+use c_check_scope::rule::Rule;
+use c_check_scope::scope::Scope;
 use c_judge::conversions::converts;
 use c_judge::kinds::{element_of, is_record};
 use c_judge::types::Types;

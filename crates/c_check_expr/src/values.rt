@@ -3,9 +3,9 @@
 ghost use Rattle.std.specs.Prelude.{◌≡◌, IfOk};
 ghost use Rattle.c_check_expr.specs.Denoted.{type_at, value, loaded, value_of, valued, converted, operand};
 
-use crate::checked::Checked;
 use crate::denoted::Denoted;
-use crate::rule::Rule;
+use c_check_scope::checked::Checked;
+use c_check_scope::rule::Rule;
 use c_judge::kinds::element_of;
 use c_judge::operand::Operand;
 use c_judge::operation::INT;

@@ -7,13 +7,13 @@ use Rattle.c_ast.specs.declared.types.TagKind.TheVariants.{Struct, Union}
 use Rattle.src_model.specs.declared.program.Program.{Program}
 use Rattle.src_model.specs.declared.program.Global.{Global as Variable}
 use Rattle.src_model.specs.declared.program.Function.{Function as Procedure}
-use Rattle.c_check_expr.specs.declared.scope.Scope.{Scope}
-use Rattle.c_check_expr.specs.declared.scope.Tag.{Tag}
-use Rattle.c_check_expr.specs.declared.scope.Meaning.{Meaning}
-use Rattle.c_check_expr.specs.declared.scope.Meaning.TheVariants.{Global, Function, BuiltIn}
-use Rattle.c_check_expr.specs.declared.scope.BuiltIn.{BuiltIn as Which}
-use Rattle.c_check_expr.specs.declared.scope.BuiltIn.TheVariants.{Send, Malloc, Calloc, Free, Panic}
-use Rattle.c_check_expr.specs.Names.{Text, with_name, number_named}
+use Rattle.c_check_scope.specs.declared.scope.Scope.{Scope}
+use Rattle.c_check_scope.specs.declared.scope.Tag.{Tag}
+use Rattle.c_check_scope.specs.declared.scope.Meaning.{Meaning}
+use Rattle.c_check_scope.specs.declared.scope.Meaning.TheVariants.{Global, Function, BuiltIn}
+use Rattle.c_check_scope.specs.declared.scope.BuiltIn.{BuiltIn as Which}
+use Rattle.c_check_scope.specs.declared.scope.BuiltIn.TheVariants.{Send, Malloc, Calloc, Free, Panic}
+use Rattle.c_check_scope.specs.Names.{Text, with_name, number_named, with_meaning}
 use Rattle.c_check_type.specs.Declarators.{signature_number}
 
 -- ---- names
@@ -31,10 +31,6 @@ unfoldable pub names_of : Program → List Text
 names_of program = all_named (all_named [] program.names) built_in_names
 
 -- ---- meanings, by the numbers of names
-
--- the name of a number means this, if there is such a name
-abbrev pub with_meaning : List (Option Meaning) → ℕ → Meaning → List (Option Meaning)
-with_meaning meanings k meaning = slice_set meanings k (Some meaning)
 
 -- globals, numbered from here on
 abbrev pub with_globals : List (Option Meaning) → ℕ → List Variable → List (Option Meaning)

@@ -2,11 +2,11 @@
 use Rattle.std.specs.Prelude.{◌≡◌, ⊤, ℕ, Option, Some, None, Ok, Err}
 use Rattle.c_ast.specs.Trees.{Expression}
 use Rattle.src_model.specs.declared.program.Program.{Program}
-use Rattle.c_check_expr.specs.Rules.{Checked, code}
+use Rattle.c_check_scope.specs.Rules.{Checked, code}
 use Rattle.c_check_expr.specs.Typing.{typed}
 use Rattle.c_check_filter.specs.ProgramScope.{scope_of}
-use Rattle.c_check_filter.specs.declared.error.CheckError.{CheckError}
-use Rattle.c_check_filter.specs.declared.error.CheckError.TheVariants.{Rule, Memory}
+use Rattle.c_check_scope.specs.declared.error.CheckError.{CheckError}
+use Rattle.c_check_scope.specs.declared.error.CheckError.TheVariants.{Rule, Memory}
 
 -- the code of a broken rule
 abbrev pub broken_code : {A : Type 0} → Checked A → Option ℕ

@@ -6,12 +6,12 @@ ghost use Rattle.c_check_expr.specs.Typing.{typed};
 ghost use Rattle.c_check_filter.specs.ProgramScope.{scope_of};
 ghost use Rattle.c_check_filter.specs.Refusals.{Refuses};
 
-use crate::error::CheckError;
 use crate::program_scope::scope_of;
 use c_ast::expr::Expr;
-use c_check_expr::checked::Checked;
 use c_check_expr::typing::denoted;
 use c_check_expr::values::valued;
+use c_check_scope::checked::Checked;
+use c_check_scope::error::CheckError;
 use sqlite_items::Boxed;
 use src_model::expr::TypedExpr;
 use src_model::program::Program;

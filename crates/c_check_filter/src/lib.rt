@@ -3,9 +3,7 @@
 #![tactic(auto)]
 
 pub mod checking;
-pub mod counted_names;
-pub mod error;
 pub mod meanings;
-pub mod numbers;
+pub mod names;
 pub mod program_scope;
 pub mod tags;

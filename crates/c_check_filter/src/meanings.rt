@@ -3,9 +3,9 @@
 ghost use Rattle.std.specs.Prelude.{◌≡◌, IfOk, OnOk, None, replicate};
 ghost use Rattle.c_check_filter.specs.ProgramScope as spec;
 
-use crate::counted_names::CountedNames;
-use crate::numbers::next;
-use c_check_expr::scope::{BuiltIn, Meaning};
+use c_check_scope::names::Names;
+use c_check_scope::numbers::next;
+use c_check_scope::scope::{BuiltIn, Meaning, set_meaning};
 use c_check_type::signatures::signature_number;
 use c_judge::types::Types;
 use c_types::{Sequence, Signature};
@@ -13,15 +13,6 @@ use lu_base::Name;
 use sqlite_items::Items;
 use src_model::program::{Function, Global as Variable, Program};
 use std::alloc::{AllocError, Global};
-
-#[tactic(auto, using(crate::proofs::Past::set_past))]
-fn set_meaning(meanings: &mut Items<Option<Meaning>>, number: usize, meaning: Meaning)
-    ensures { meanings.new ≡ spec.with_meaning meanings.old number meaning }
-{
-    if number < meanings.len() {
-        meanings.set(number, Some(meaning));
-    }
-}
 
 fn nothing_yet(alloc: Global, count: usize) -> Result<Items<Option<Meaning>>, AllocError>
     ensures { IfOk result (λ meanings. meanings ≡ replicate count None) }
@@ -84,7 +75,7 @@ fn add_functions(
 fn add_built_in(
     meanings: &mut Items<Option<Meaning>>,
     alloc: Global,
-    names: &CountedNames,
+    names: &Names,
     text: &str,
     which: BuiltIn,
 ) -> Result<(), AllocError>
@@ -100,7 +91,7 @@ fn add_built_in(
 fn add_allocations(
     meanings: &mut Items<Option<Meaning>>,
     alloc: Global,
-    names: &CountedNames,
+    names: &Names,
 ) -> Result<(), AllocError>
     ensures { OnOk result (meanings.new ≡ spec.with_allocations names.now meanings.old) }
 {
@@ -112,7 +103,7 @@ fn add_allocations(
 fn add_built_ins(
     meanings: &mut Items<Option<Meaning>>,
     alloc: Global,
-    names: &CountedNames,
+    names: &Names,
 ) -> Result<(), AllocError>
     ensures { OnOk result (meanings.new ≡ spec.with_built_ins names.now meanings.old) }
 {
@@ -127,7 +118,7 @@ pub fn meanings_of(
     alloc: Global,
     program: &Program,
     types: &Types,
-    names: &CountedNames,
+    names: &Names,
 ) -> Result<Items<Option<Meaning>>, AllocError>
     requires { types.now ≡ program.now.types }
     ensures { IfOk result (λ meanings. meanings ≡ spec.meanings_of program.now names.now) }

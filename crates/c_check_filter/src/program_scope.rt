@@ -3,18 +3,18 @@
 ghost use Rattle.std.specs.Prelude.{◌≡◌, IfOk};
 ghost use Rattle.c_check_filter.specs.ProgramScope as spec;
 
-use crate::counted_names::{CountedNames, names_of};
 use crate::meanings::meanings_of;
+use crate::names::names_of;
 use crate::tags::tags_of;
-use c_check_expr::names::Names;
-use c_check_expr::scope::Scope;
+use c_check_scope::names::Names;
+use c_check_scope::scope::Scope;
 use c_judge::types::Types;
 use sqlite_items::Items;
 use src_model::program::Program;
 use std::alloc::{AllocError, Global};
 
 #[tactic(auto, unfolding(crate::specs::ProgramScope::scope_named))]
-fn scope_named(alloc: Global, program: &Program, names: CountedNames) -> Result<Scope, AllocError>
+fn scope_named(alloc: Global, program: &Program, names: Names) -> Result<Scope, AllocError>
     ensures { IfOk result (λ scope. scope ≡ spec.scope_named program.now names) }
 {
     let types = Types::new(alloc, &program.types)?;
@@ -22,7 +22,7 @@ fn scope_named(alloc: Global, program: &Program, names: CountedNames) -> Result<
     let meanings = meanings_of(alloc, program, &types, &names)?;
     Ok(Scope {
         types,
-        names: names.into_names(),
+        names,
         meanings,
         tags,
         locals: Names::new(alloc),

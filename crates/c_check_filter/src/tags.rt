@@ -3,16 +3,16 @@
 ghost use Rattle.std.specs.Prelude.{◌≡◌, IfOk, OnOk, Some, None, replicate, slice_set};
 ghost use Rattle.c_check_filter.specs.ProgramScope as spec;
 
-use crate::counted_names::CountedNames;
-use crate::numbers::next;
 use c_ast::types::TagKind;
-use c_check_expr::scope::Tag;
+use c_check_scope::names::Names;
+use c_check_scope::numbers::next;
+use c_check_scope::scope::Tag;
 use c_judge::types::Types;
 use c_types::TagDef;
 use sqlite_items::Items;
 use std::alloc::{AllocError, Global};
 
-#[tactic(auto, using(crate::proofs::Past::set_past))]
+#[tactic(auto, using(c_check_scope::proofs::Past::set_past))]
 fn set_tag(tags: &mut Items<Option<Tag>>, name: usize, kind: TagKind, number: u32)
     ensures { tags.new ≡ slice_set tags.old name (Some (spec.tag kind number)) }
 {
@@ -54,7 +54,7 @@ fn add_tags(
 pub fn tags_of(
     alloc: Global,
     types: &Types,
-    names: &CountedNames,
+    names: &Names,
 ) -> Result<Items<Option<Tag>>, AllocError>
     ensures { IfOk result (λ tags. tags ≡ spec.tags_of types.now names.now) }
 {

@@ -1,12 +1,12 @@
 -- Whether a table of types has the signatures that a text writes.
-use Rattle.std.specs.Prelude.{Bool, true, false, ◌&&◌, List, [], ◌∷◌, Option, Some, None, Result, Ok, Err}
+use Rattle.std.specs.Prelude.{Bool, true, ◌&&◌, List, [], ◌∷◌, Ok, Err}
 use Rattle.std.specs.List.{list_any}
 use Rattle.c_types.specs.declared.parts.Parts.{Parts}
 use Rattle.c_types.specs.declared.parts.Signature.{Signature}
 use Rattle.c_ast.specs.declared.types.TypeName.{TypeName}
 use Rattle.c_ast.specs.Trees.{Parameter, Plain, Function, Parameters, NoParameter, Also, Statement, Block, Empty, Local, Assign, Call, If, IfElse, While, For, Break, Continue, Return, Statements, Done, Then, Object, Data, Pointer, Declaration, Record, Global, Prototype, Definition}
-use Rattle.c_check_expr.specs.declared.scope.Scope.{Scope}
-use Rattle.c_check_expr.specs.Rules.{Checked}
+use Rattle.c_check_scope.specs.declared.scope.Scope.{Scope}
+use Rattle.c_check_scope.specs.Rules.{Checked}
 use Rattle.c_check_type.specs.Declarators.{same_signature, signature}
 
 -- one that breaks a rule isn't asked for

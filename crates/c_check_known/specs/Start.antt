@@ -1,13 +1,13 @@
 -- What is declared before a text.
-use Rattle.std.specs.Prelude.{ℕ, List, [], ◌∷◌, length, replicate, Option, Some, None, slice_set}
+use Rattle.std.specs.Prelude.{ℕ, List, [], length, replicate, Option, None}
 use Rattle.c_types.specs.declared.parts.Ty.TheVariants as T
 use Rattle.c_types.specs.declared.parts.Parts.{Parts}
-use Rattle.c_check_expr.specs.declared.scope.Scope.{Scope}
-use Rattle.c_check_expr.specs.declared.scope.Tag.{Tag}
-use Rattle.c_check_expr.specs.declared.scope.Meaning.{Meaning}
-use Rattle.c_check_expr.specs.declared.scope.Meaning.TheVariants.{Global, BuiltIn}
-use Rattle.c_check_expr.specs.declared.scope.BuiltIn.TheVariants.{Send, Malloc, Calloc, Free, Panic}
-use Rattle.c_check_expr.specs.Names.{Text}
+use Rattle.c_check_scope.specs.declared.scope.Scope.{Scope}
+use Rattle.c_check_scope.specs.declared.scope.Tag.{Tag}
+use Rattle.c_check_scope.specs.declared.scope.Meaning.{Meaning}
+use Rattle.c_check_scope.specs.declared.scope.Meaning.TheVariants.{Global, BuiltIn}
+use Rattle.c_check_scope.specs.declared.scope.BuiltIn.TheVariants.{Send, Malloc, Calloc, Free, Panic}
+use Rattle.c_check_scope.specs.Names.{Text, with_meaning}
 use Rattle.c_check_expr.specs.Denoted.{number}
 
 -- `struct message` is struct 0
@@ -16,10 +16,6 @@ message_type p = number p (T.Struct 0)
 
 abbrev pub nothing_yet : List (Option Tag) → List (Option Meaning)
 nothing_yet tags = replicate (length tags) None
-
--- a name means this from here on
-abbrev pub with_meaning : List (Option Meaning) → ℕ → Meaning → List (Option Meaning)
-with_meaning meanings k meaning = slice_set meanings k (Some meaning)
 
 abbrev pub with_messages : List (Option Meaning) → ℕ → List (Option Meaning)
 with_messages meanings ty = with_meaning (with_meaning meanings 4 (Global 0 ty)) 5 (Global 1 ty)

@@ -1,8 +1,7 @@
 -- Whether a table of types has the structs, unions and arrays of a text.
-use Rattle.std.specs.Prelude.{ℕ, ◌*◌, ◌-◌, ◌^◌, nat_eq, Bool, true, false, ◌&&◌, not, List, [], ◌∷◌, Option, Some, None, Result, Ok, Err, slice_get, slice_set, if◌then◌else◌}
+use Rattle.std.specs.Prelude.{ℕ, ◌-◌, ◌^◌, nat_eq, Bool, true, false, ◌&&◌, List, [], ◌∷◌, Option, Some, None, Ok, Err, slice_get, slice_set, if◌then◌else◌}
 use Rattle.std.specs.Option.{option_map_or}
 use Rattle.std.specs.List.{list_any}
-use Rattle.c_types.specs.declared.parts.IntKind.TheVariants as K
 use Rattle.c_types.specs.declared.parts.Ty.{Ty}
 use Rattle.c_types.specs.declared.parts.Ty.TheVariants as T
 use Rattle.c_types.specs.declared.parts.FieldDef.{FieldDef}
@@ -13,10 +12,10 @@ use Rattle.c_ast.specs.declared.types.TagKind.TheVariants.{Struct, Union}
 use Rattle.c_ast.specs.Trees.{Text, Object, Declaration, Record, Global, Prototype, Definition}
 use Rattle.c_judge.specs.Numbers.{same_type}
 use Rattle.c_judge.specs.Operations.{int_type}
-use Rattle.c_check_expr.specs.declared.scope.Scope.{Scope}
-use Rattle.c_check_expr.specs.declared.scope.Tag.{Tag}
-use Rattle.c_check_expr.specs.Rules.{Checked}
-use Rattle.c_check_expr.specs.Names.{number_named, tag_of}
+use Rattle.c_check_scope.specs.declared.scope.Scope.{Scope}
+use Rattle.c_check_scope.specs.declared.scope.Tag.{Tag}
+use Rattle.c_check_scope.specs.Rules.{Checked}
+use Rattle.c_check_scope.specs.Names.{number_named, tag_of}
 use Rattle.c_check_expr.specs.Denoted.{number}
 use Rattle.c_check_type.specs.declared.objects.ObjectType.{ObjectType}
 use Rattle.c_check_decl.specs.Records.{name_number, small_type, record_fields}

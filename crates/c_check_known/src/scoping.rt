@@ -1,22 +1,10 @@
 // What is declared as a text goes on.
 
 ghost use Rattle.std.specs.Prelude.{◌≡◌, slice_get};
-ghost use Rattle.c_check_known.specs.Start.{with_meaning};
 ghost use Rattle.c_check_known.specs.Tally.{declare_number, declare_tag};
 
-use c_check_expr::scope::{Meaning, Scope, Tag};
+use c_check_scope::scope::{Scope, Tag};
 use lu_base::Name;
-use sqlite_items::Items;
-
-/// The name of this number means this from here on, if there is such a name.
-#[tactic(auto, using(crate::proofs::Past::set_past))]
-pub fn set_meaning(meanings: &mut Items<Option<Meaning>>, number: usize, meaning: Meaning)
-    ensures { meanings.new ≡ with_meaning meanings.old number meaning }
-{
-    if number < meanings.len() {
-        meanings.set(number, Some(meaning));
-    }
-}
 
 fn declare_number(scope: &mut Scope, number: usize)
     ensures scope { scope.new ≡ declare_number scope.old (slice_get scope.old.tags number) number }

@@ -3,9 +3,8 @@
 ghost use Rattle.std.specs.Prelude.{◌≡◌, IfOk};
 ghost use Rattle.c_check_known.specs.Start as spec;
 
-use crate::scoping::set_meaning;
-use c_check_expr::names::Names;
-use c_check_expr::scope::{BuiltIn, Meaning, Scope, Tag};
+use c_check_scope::names::Names;
+use c_check_scope::scope::{BuiltIn, Meaning, Scope, Tag, set_meaning};
 use c_judge::types::Types;
 use c_types::{Ty, TyId, TypeTable};
 use sqlite_items::Items;

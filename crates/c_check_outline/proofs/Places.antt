@@ -3,7 +3,7 @@ use Rattle.std.proofs.Common.{◌≡◌, sym, ap, refl, ℕ, suc, ◌+◌, Bool,
 use Rattle.std.specs.Prelude.{not, if◌then◌else◌}
 use Rattle.std.specs.List.{list_any, position_or_len}
 use Rattle.std.specs.Str.{bytes_eq}
-use Rattle.c_check_expr.specs.Names.{Text, number_named, place_of, with_name}
+use Rattle.c_check_scope.specs.Names.{Text, number_named, place_of, with_name}
 
 some_is : (b : Bool) (m n : ℕ) → cond b (Some m) None ≡ Some n → m ≡ n
 some_is true m n h = cc
@@ -30,9 +30,11 @@ none_passes : {A : Type 0} (p : A → Bool) (xs : List A) → nat_lt (position_o
 none_passes p [] h = refl
 none_passes p (x ∷ xs) h = or_none (p x) (position_or_len p xs) (length xs) (list_any p xs) (none_passes p xs) h
 
+pub new_passes_none : (names : List Text) (x : Text) → number_named names x ≡ None → list_any (bytes_eq x) names ≡ false
+unfolding number_named
+new_passes_none names x h =
+    none_passes (bytes_eq x) names (none_is (nat_lt (position_or_len (bytes_eq x) names) (length names)) (position_or_len (bytes_eq x) names) h)
+
 -- a name that isn't among them comes last
 pub with_name_new : (names : List Text) (x : Text) → number_named names x ≡ None → with_name names x ≡ names ++ (x ∷ [])
-unfolding number_named
-with_name_new names x h =
-    ap (λ b. if b then names else names ++ (x ∷ []))
-    (none_passes (bytes_eq x) names (none_is (nat_lt (position_or_len (bytes_eq x) names) (length names)) (position_or_len (bytes_eq x) names) h))
+with_name_new names x h = ap (λ b. if b then names else names ++ (x ∷ [])) (new_passes_none names x h)

@@ -4,10 +4,10 @@ use Rattle.std.specs.Prelude.{slice_get, codes}
 use Rattle.c_ast.specs.declared.types.TagKind.{TagKind}
 use Rattle.c_ast.specs.declared.types.TagKind.TheVariants.{Struct, Union}
 use Rattle.c_ast.specs.Trees.{Object, Declaration, Record, Global, Prototype, Definition}
-use Rattle.c_check_expr.specs.declared.scope.Tag.{Tag}
-use Rattle.c_check_expr.specs.Names.{Text, number_named, place_of}
+use Rattle.c_check_scope.specs.declared.scope.Tag.{Tag}
+use Rattle.c_check_scope.specs.Names.{Text, number_named, place_of, object_name}
 use Rattle.c_check_outline.specs.declared.outline.Outline.{Outline}
-use Rattle.c_check_outline.specs.Outlines.{named_at, named, all_named, tagged_at, tagged, headed, defined, object_name, fields_named, with_tag, with_heading, with_definition, declared, declared_after, predeclared, nothing, start, outline}
+use Rattle.c_check_outline.specs.Outlines.{named_at, named, all_named, tagged_at, tagged, headed, defined, fields_named, with_tag, with_heading, with_definition, declared, declared_after, predeclared, nothing, start, outline}
 
 abbrev AreNames : Outline → Type 0
 AreNames o = o.texts ≡ o.names

@@ -2,9 +2,9 @@
 use Rattle.std.specs.Prelude.{ℕ, ◌+◌, Bool, true, false, List, [], ◌∷◌, ◌++◌, Option, Some, None, slice_get, slice_set, codes}
 use Rattle.c_ast.specs.declared.types.TagKind.{TagKind}
 use Rattle.c_ast.specs.declared.types.TagKind.TheVariants.{Struct, Union}
-use Rattle.c_ast.specs.Trees.{Object, Data, Pointer, Declaration, Record, Global, Prototype, Definition}
-use Rattle.c_check_expr.specs.declared.scope.Tag.{Tag}
-use Rattle.c_check_expr.specs.Names.{Text, number_named, place_of}
+use Rattle.c_ast.specs.Trees.{Object, Declaration, Record, Global, Prototype, Definition}
+use Rattle.c_check_scope.specs.declared.scope.Tag.{Tag}
+use Rattle.c_check_scope.specs.Names.{Text, number_named, place_of, object_name}
 use Rattle.c_check_outline.specs.declared.outline.Outline.{Outline}
 
 -- ---- names
@@ -79,10 +79,6 @@ unfoldable pub defined : Outline → ℕ → ℕ → Outline
 defined o k place = record o { definitions = first_of o.definitions k place }
 
 -- ---- declarations
-
-abbrev pub object_name : Object → Text
-object_name (Data t x n) = x
-object_name (Pointer t x n ps) = x
 
 abbrev pub fields_named : Outline → List Object → Outline
 fields_named o [] = o

@@ -1,12 +1,13 @@
 // Names with what they are the tags and functions of.
 
 ghost use Rattle.std.specs.Prelude.{◌≡◌, ◌<◌, IfOk, OnOk, None, length};
-ghost use Rattle.c_check_expr.specs.Names.{number_named, place_of};
+ghost use Rattle.c_check_scope.specs.Names.{number_named, place_of};
 ghost use Rattle.c_check_outline.specs.Outlines as spec;
 
 use c_ast::types::TagKind;
-use c_check_expr::names::Names;
-use c_check_expr::scope::Tag;
+use c_check_scope::names::Names;
+use c_check_scope::numbers::next;
+use c_check_scope::scope::Tag;
 use lu_base::Name;
 use sqlite_items::Items;
 use std::alloc::{AllocError, Global};
@@ -100,9 +101,7 @@ impl Outline {
         ensures { OnOk result (self.new ≡ spec.next_tag self.old kind is_declared number) }
     {
         let count = self.count(kind);
-        let Some(more) = count.checked_add(1) else {
-            return Err(AllocError);
-        };
+        let more = next(count)?;
         self.tags.set(
             number,
             Some(Tag {

@@ -7,18 +7,10 @@ ghost use Rattle.c_check_outline.specs.Outlines as spec;
 use crate::outline::Outline;
 use c_ast::decl::{Decl, Named};
 use c_ast::types::TagKind;
+use c_check_scope::names::object_name;
+use c_check_scope::numbers::next;
 use lu_base::Name;
 use std::alloc::{AllocError, Global};
-
-/// The name of a field or global.
-pub fn object_name(object: &Named) -> &Name
-    ensures { result.now ≡ spec.object_name (trees.object object.now) }
-{
-    match object {
-        Named::Object(_, name, _) => name,
-        Named::Function(_, name, _, _) => name,
-    }
-}
 
 fn add_fields(outline: &mut Outline, alloc: Global, fields: &[Named]) -> Result<(), AllocError>
     ensures { OnOk result (outline.new ≡ spec.fields_named outline.old (trees.objects fields.now)) }
@@ -65,10 +57,7 @@ fn add_declarations(
     let mut place = 0u32;
     for decl in declarations {
         add_declaration(outline, alloc, place, decl)?;
-        let Some(next) = place.checked_add(1) else {
-            return Err(AllocError);
-        };
-        place = next;
+        place = next(place)?;
     }
     Ok(())
 }

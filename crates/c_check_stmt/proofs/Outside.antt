@@ -1,9 +1,9 @@
 -- Statements leave what is declared outside their function as it was.
 use Rattle.std.proofs.Common.{◌≡◌, ◌∙◌, refl, ℕ, Option, Some, None}
 use Rattle.c_ast.specs.Trees.{Text, Parameters, NoParameter, Also, Statement, Statements, Block, Empty, Local, Assign, Call, If, IfElse, While, For, Break, Continue, Return, Done, Then}
-use Rattle.c_check_expr.specs.declared.scope.Scope.{Scope}
-use Rattle.c_check_expr.specs.declared.scope.Meaning.{Meaning}
-use Rattle.c_check_expr.specs.Names.{meaning_of}
+use Rattle.c_check_scope.specs.declared.scope.Scope.{Scope}
+use Rattle.c_check_scope.specs.declared.scope.Meaning.{Meaning}
+use Rattle.c_check_scope.specs.Names.{meaning_of}
 use Rattle.c_check_stmt.specs.declared.state.State.{State}
 use Rattle.c_check_stmt.specs.declared.state.Frame.{Frame}
 use Rattle.c_check_stmt.specs.Variables.{bare, with_variable, with_variable_in, with_parameter, with_parameters}

@@ -3,9 +3,9 @@ use Rattle.std.specs.Prelude.{ℕ, nat_lt, false, List, [], length, Option, Ok, 
 use Rattle.lu_spec.specs.Then.{then_do}
 use Rattle.c_ast.specs.Trees.{Parameters, Statements}
 use Rattle.src_model.specs.declared.stmt.TypedStmt.{TypedStmt}
-use Rattle.c_check_expr.specs.declared.scope.Scope.{Scope}
-use Rattle.c_check_expr.specs.declared.rule.Rule.TheVariants.{TooManyLocals}
-use Rattle.c_check_expr.specs.Rules.{Checked, both}
+use Rattle.c_check_scope.specs.declared.scope.Scope.{Scope}
+use Rattle.c_check_scope.specs.declared.rule.Rule.TheVariants.{TooManyLocals}
+use Rattle.c_check_scope.specs.Rules.{Checked, both}
 use Rattle.c_check_stmt.specs.declared.state.State.{State}
 use Rattle.c_check_stmt.specs.declared.state.Frame.{Frame}
 use Rattle.c_check_stmt.specs.declared.bodies.Body.{Body}

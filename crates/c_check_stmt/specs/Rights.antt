@@ -5,10 +5,10 @@ use Rattle.c_types.specs.declared.parts.Parts.{Parts}
 use Rattle.c_ast.specs.Trees.{Expression, Right, Invoke, Value}
 use Rattle.src_model.specs.declared.stmt.Rhs.{Rhs}
 use Rattle.src_model.specs.declared.stmt.Rhs.TheVariants as R
-use Rattle.c_check_expr.specs.declared.scope.Scope.{Scope}
+use Rattle.c_check_scope.specs.declared.scope.Scope.{Scope}
 use Rattle.c_check_expr.specs.declared.calls.Position.{Position}
 use Rattle.c_check_expr.specs.declared.calls.Invocation.{Invocation}
-use Rattle.c_check_expr.specs.Rules.{Checked, broken}
+use Rattle.c_check_scope.specs.Rules.{Checked, broken}
 use Rattle.c_check_expr.specs.Typing.{typed}
 use Rattle.c_check_expr.specs.Uses.{right_side}
 use Rattle.c_check_expr.specs.Calls.{call, call_value}

@@ -6,12 +6,12 @@ use Rattle.src_model.specs.declared.expr.TypedExpr.{TypedExpr}
 use Rattle.src_model.specs.declared.stmt.Rhs.{Rhs}
 use Rattle.src_model.specs.declared.stmt.TypedStmt.{TypedStmt}
 use Rattle.src_model.specs.declared.stmt.TypedStmt as T
-use Rattle.c_check_expr.specs.declared.scope.Scope.{Scope}
+use Rattle.c_check_scope.specs.declared.scope.Scope.{Scope}
 use Rattle.c_check_expr.specs.declared.calls.Position.TheVariants.{Statement, RightSide, Return}
 use Rattle.c_check_expr.specs.declared.uses.Assigned.{Assigned}
 use Rattle.c_check_expr.specs.declared.uses.Assigned.TheVariants as A
-use Rattle.c_check_expr.specs.declared.rule.Rule.TheVariants.{OutsideLoop, Returned}
-use Rattle.c_check_expr.specs.Rules.{Checked, both}
+use Rattle.c_check_scope.specs.declared.rule.Rule.TheVariants.{OutsideLoop, Returned}
+use Rattle.c_check_scope.specs.Rules.{Checked, both}
 use Rattle.c_check_expr.specs.Uses.{condition, left_side}
 use Rattle.c_check_type.specs.Declarators.{param_type}
 use Rattle.c_check_stmt.specs.declared.state.State.{State}

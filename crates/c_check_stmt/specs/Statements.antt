@@ -6,7 +6,7 @@ use Rattle.src_model.specs.declared.expr.TypedExpr.{TypedExpr}
 use Rattle.src_model.specs.declared.stmt.TypedStmt.{TypedStmt}
 use Rattle.src_model.specs.declared.stmt.TypedStmt as T
 use Rattle.c_check_expr.specs.declared.calls.Position.TheVariants as P
-use Rattle.c_check_expr.specs.Rules.{Checked, both}
+use Rattle.c_check_scope.specs.Rules.{Checked, both}
 use Rattle.c_check_expr.specs.Uses.{condition}
 use Rattle.c_check_stmt.specs.declared.state.State.{State}
 use Rattle.c_check_stmt.specs.declared.state.Frame.{Frame}

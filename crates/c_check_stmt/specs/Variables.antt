@@ -4,12 +4,12 @@ use Rattle.lu_spec.specs.Then.{then_do}
 use Rattle.c_types.specs.declared.parts.Parts.{Parts}
 use Rattle.c_ast.specs.Trees.{Text, Parameter, Plain, Function, Parameters, NoParameter, Also}
 use Rattle.c_judge.specs.Operations.{int_type}
-use Rattle.c_check_expr.specs.declared.scope.Scope.{Scope}
-use Rattle.c_check_expr.specs.declared.scope.Meaning.{Meaning}
-use Rattle.c_check_expr.specs.declared.scope.Meaning.TheVariants.{Local}
-use Rattle.c_check_expr.specs.declared.rule.Rule.TheVariants.{LocalTaken}
-use Rattle.c_check_expr.specs.Rules.{Checked, both}
-use Rattle.c_check_expr.specs.Names.{meaning_of, with_name}
+use Rattle.c_check_scope.specs.declared.scope.Scope.{Scope}
+use Rattle.c_check_scope.specs.declared.scope.Meaning.{Meaning}
+use Rattle.c_check_scope.specs.declared.scope.Meaning.TheVariants.{Local}
+use Rattle.c_check_scope.specs.declared.rule.Rule.TheVariants.{LocalTaken}
+use Rattle.c_check_scope.specs.Rules.{Checked, both}
+use Rattle.c_check_scope.specs.Names.{meaning_of, with_name}
 use Rattle.c_check_expr.specs.Denoted.{number}
 use Rattle.c_check_type.specs.Declarators.{param_type}
 

@@ -1,7 +1,7 @@
 // What a body is.
 
-use c_check_expr::checked::Checked;
-use c_check_expr::scope::Scope;
+use c_check_scope::checked::Checked;
+use c_check_scope::scope::Scope;
 use c_types::TyId;
 use sqlite_items::Items;
 use src_model::stmt::TypedStmt;

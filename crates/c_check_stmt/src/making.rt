@@ -4,7 +4,7 @@ ghost use Rattle.std.specs.Prelude.{◌≡◌, IfOk};
 ghost use Rattle.c_check_stmt.specs.Statements as spec;
 
 use crate::simple::{boxed, single};
-use c_check_expr::checked::{Checked, both};
+use c_check_scope::checked::{Checked, both};
 use sqlite_items::{Boxed, Items};
 use src_model::expr::TypedExpr;
 use src_model::stmt::TypedStmt;

@@ -3,7 +3,8 @@
 ghost use Rattle.std.specs.Prelude.{◌≡◌, IfOk};
 ghost use Rattle.c_check_stmt.specs.Rights as spec;
 
-use c_check_expr::scope::Scope;
+use c_check_scope::numbers::as_number;
+use c_check_scope::scope::Scope;
 use c_types::TyId;
 use sqlite_items::Items;
 use std::alloc::AllocError;
@@ -27,22 +28,12 @@ pub struct State {
     pub sites: Items<TyId>,
 }
 
-/// A count as a number. More than 2^32 - 1 would want more memory than there is.
-pub fn small(count: usize) -> Result<u32, AllocError>
-    ensures { IfOk result (λ n. n ≡ count) }
-{
-    match u32::try_from(count) {
-        Ok(count) => Ok(count),
-        Err(_) => Err(AllocError),
-    }
-}
-
 /// The number of the site of the next allocation.
 #[tactic(auto, unfolding(crate::specs::Rights::next_site))]
 pub fn next_site(frame: Frame, state: &State) -> Result<u32, AllocError>
     ensures { IfOk result (λ site. site ≡ spec.next_site frame state.now) }
 {
-    let count = small(state.sites.len())?;
+    let count = as_number(state.sites.len())?;
     match frame.first_site.checked_add(count) {
         Some(site) => Ok(site),
         None => Err(AllocError),

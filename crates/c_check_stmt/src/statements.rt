@@ -2,7 +2,7 @@
 
 ghost use Rattle.std.specs.Prelude.{◌≡◌, IfOk, [], Ok, true};
 ghost use Rattle.c_ast.specs.Trees.{expression, expression_if_any, setting_if_any, statement, statements};
-ghost use Rattle.c_check_expr.specs.Rules.{both};
+ghost use Rattle.c_check_scope.specs.Rules.{both};
 ghost use Rattle.c_check_expr.specs.Uses as uses;
 ghost use Rattle.c_check_stmt.specs.Simple as parts;
 ghost use Rattle.c_check_stmt.specs.Statements as spec;
@@ -16,9 +16,9 @@ use crate::simple::{
 use crate::state::{Frame, State};
 use c_ast::expr::Expr;
 use c_ast::stmt::{Simple, Stmt};
-use c_check_expr::checked::{Checked, both};
-use c_check_expr::scope::Scope;
 use c_check_expr::uses::condition;
+use c_check_scope::checked::{Checked, both};
+use c_check_scope::scope::Scope;
 use sqlite_items::{Boxed, Items};
 use src_model::expr::TypedExpr;
 use src_model::stmt::TypedStmt;

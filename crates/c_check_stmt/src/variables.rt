@@ -5,11 +5,11 @@ ghost use Rattle.c_ast.specs.Trees.{parameter, parameters};
 ghost use Rattle.c_check_type.specs.Declarators as declarators;
 ghost use Rattle.c_check_stmt.specs.Variables as spec;
 
-use crate::state::small;
 use c_ast::stmt::Param;
-use c_check_expr::checked::{Checked, both};
-use c_check_expr::rule::Rule;
-use c_check_expr::scope::{Meaning, Scope};
+use c_check_scope::checked::{Checked, both};
+use c_check_scope::numbers::as_number;
+use c_check_scope::rule::Rule;
+use c_check_scope::scope::{Meaning, Scope};
 use c_check_type::params::param_type;
 use c_judge::operation::INT;
 use c_judge::types::Types;
@@ -52,7 +52,7 @@ fn add_variable(
     match scope.meaning_of(name) {
         Some(_) => Ok(Err(Rule::LocalTaken)),
         None => {
-            let number = small(scope.variables.len())?;
+            let number = as_number(scope.variables.len())?;
             scope.locals.add(alloc, name)?;
             scope.variables.push(Meaning::Local(number, ty))?;
             Ok(Ok(number))

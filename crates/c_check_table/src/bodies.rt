@@ -2,7 +2,7 @@
 
 use crate::signatures::{Known, add_param, add_signature};
 use c_ast::decl::{Decl, Named};
-use c_ast::stmt::{Param, Stmt};
+use c_ast::stmt::Stmt;
 use c_check_outline::outline::Outline;
 use std::alloc::{AllocError, Global};
 

@@ -9,7 +9,8 @@ use crate::written::tag_of;
 use c_ast::decl::Named;
 use c_ast::types::TagKind;
 use c_check_outline::outline::Outline;
-use c_check_outline::texts::object_name;
+use c_check_scope::names::object_name;
+use c_check_scope::numbers::as_number;
 use c_types::{FieldDef, IntKind, Sequence, TagDef, Ty};
 use indexmap::IndexSet;
 use lu_base::Name;
@@ -29,11 +30,7 @@ struct Field {
 }
 
 fn name_number(outline: &Outline, name: &Name) -> Option<u32> {
-    let number = outline.names.number_of(name)?;
-    match u32::try_from(number) {
-        Ok(number) => Some(number),
-        Err(_) => None,
-    }
+    as_number(outline.names.number_of(name)?).ok()
 }
 
 fn field_of(

@@ -5,6 +5,7 @@ use crate::written::{is_void, scalar};
 use c_ast::stmt::Param;
 use c_ast::types::TypeName;
 use c_check_outline::outline::Outline;
+use c_check_scope::numbers::as_number;
 use c_types::{Sequence, Signature, Ty, TyId};
 use indexmap::IndexSet;
 use std::alloc::{AllocError, Global};
@@ -38,12 +39,9 @@ impl Known {
     /// Adds a signature with the type of pointers to its functions, and gives the number of this type.
     fn add(&mut self, answer: Option<TyId>, params: Vec<TyId>) -> Result<TyId, AllocError> {
         let (number, _) = self.signatures.insert_full(Key { answer, params })?;
-        match u32::try_from(number) {
-            Ok(number) => self
-                .types
-                .add_with_pointers(Ty::Function(number), GREATEST_STARS),
-            Err(_) => Err(AllocError),
-        }
+        let number = as_number(number)?;
+        self.types
+            .add_with_pointers(Ty::Function(number), GREATEST_STARS)
     }
 
     pub fn copy_signatures(&self, alloc: Global) -> Result<Sequence<Signature>, AllocError> {

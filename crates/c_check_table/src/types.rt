@@ -1,6 +1,7 @@
 // Types, each once.
 
 use c_check_outline::outline::Outline;
+use c_check_scope::numbers::as_number;
 use c_types::{IntKind, Sequence, Ty, TyId};
 use indexmap::IndexSet;
 use std::alloc::{AllocError, Global};
@@ -36,10 +37,7 @@ impl TypeList {
     /// Adds a type at the end, if it isn't among them, and gives its number. Want of memory where there are too many.
     pub fn add(&mut self, ty: Ty) -> Result<TyId, AllocError> {
         let (number, _) = self.set.insert_full(ty)?;
-        match TyId::try_from(number) {
-            Ok(number) => Ok(number),
-            Err(_) => Err(AllocError),
-        }
+        as_number(number)
     }
 
     /// Adds a type with the pointers that have at most so many stars over it, and gives its number.
@@ -77,13 +75,7 @@ impl TypeList {
 
     /// The number of a type.
     pub fn find(&self, ty: Ty) -> Option<TyId> {
-        match self.set.get_index_of(&ty) {
-            None => None,
-            Some(number) => match TyId::try_from(number) {
-                Ok(number) => Some(number),
-                Err(_) => None,
-            },
-        }
+        as_number(self.set.get_index_of(&ty)?).ok()
     }
 
     /// The number of a type under so many stars.

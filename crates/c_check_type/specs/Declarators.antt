@@ -1,5 +1,5 @@
 -- What declarators denote in a scope: the number of a type, or the broken rule of the least code.
-use Rattle.std.specs.Prelude.{ℕ, zero, suc, nat_lt, Bool, true, false, ◌&&◌, List, [], ◌∷◌, ◌++◌, length, Option, Some, None, Result, Ok, Err, position, if◌then◌else◌}
+use Rattle.std.specs.Prelude.{ℕ, zero, nat_lt, Bool, ◌&&◌, List, [], ◌∷◌, ◌++◌, length, Option, Some, None, Ok, Err, position, if◌then◌else◌}
 use Rattle.std.specs.Option.{option_map_or}
 use Rattle.lu_spec.specs.Then.{then_do}
 use Rattle.c_types.specs.declared.parts.Ty.TheVariants as T
@@ -12,9 +12,9 @@ use Rattle.c_ast.specs.declared.types.TypeName.{TypeName}
 use Rattle.c_ast.specs.Trees.{Parameter, Plain, Function, Parameters, NoParameter, Also, Object, Data, Pointer}
 use Rattle.src_model.specs.Store.{same_result, same_numbers}
 use Rattle.c_judge.specs.Kinds.{is_scalar}
-use Rattle.c_check_expr.specs.declared.scope.Scope.{Scope}
-use Rattle.c_check_expr.specs.declared.rule.Rule.TheVariants.{ArrayLength, NotScalar, TooManyLocals}
-use Rattle.c_check_expr.specs.Rules.{Checked, both}
+use Rattle.c_check_scope.specs.declared.scope.Scope.{Scope}
+use Rattle.c_check_scope.specs.declared.rule.Rule.TheVariants.{ArrayLength, NotScalar, TooManyLocals}
+use Rattle.c_check_scope.specs.Rules.{Checked, both}
 use Rattle.c_check_expr.specs.Denoted.{type_at, number}
 use Rattle.c_check_expr.specs.Typing.{named}
 use Rattle.c_check_type.specs.declared.objects.ObjectType.{ObjectType}

@@ -1,10 +1,10 @@
 // The numbers of signatures and of function pointer types.
 
-ghost use Rattle.std.specs.Prelude.{◌≡◌, ◌<◌, ◌^◌, length, position};
+ghost use Rattle.std.specs.Prelude.{◌≡◌, ◌<◌, position};
 ghost use Rattle.src_model.specs.Store as store;
 ghost use Rattle.c_check_type.specs.Declarators as spec;
 
-use c_check_expr::checked::Checked;
+use c_check_scope::checked::Checked;
 use c_judge::types::Types;
 use c_types::{Signature, Ty, TyId};
 

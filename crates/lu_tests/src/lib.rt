@@ -2,10 +2,6 @@
 #![tactic(auto)]
 
 #[cfg(test)]
-mod checks;
-#[cfg(test)]
-mod filters;
-#[cfg(test)]
 mod layouts;
 #[cfg(test)]
 mod pairings;

@@ -1,4 +1,4 @@
-use Rattle.std.proofs.Common.{◌≡◌, ◌∙◌, sym, ap}
+use Rattle.std.proofs.Common.{◌∙◌, sym, ap}
 use Rattle.std.specs.Option.{option_map}
 use Rattle.c_ast.specs.Trees.{expression}
 use Rattle.c_check_expr.proofs.Arguments.{expressions_get, seen}
