@@ -356,7 +356,8 @@ impl Program {
 
     /// Whether the program is valid, as `valid` says it, where no two of its names are equal: they aren't compared again.
     /// It takes no memory. Its time is near linear in the program where the table of types stands in its usual order: the
-    /// integer types, `void *`, the structs, the unions and the pointers to functions, each with the pointers over it.
+    /// integer types, `void *`, the structs, the unions and the pointers to functions, each with the pointers over it. But
+    /// the signature of each function is searched for among all signatures, whose number has no bound of its own.
     pub fn valid_where_distinct(&self) -> bool
         requires { IsTrue (are_distinct self.now.names) }
         ensures { Tells result (spec.IsValid self.now) }

@@ -16,6 +16,16 @@ const BASE_TYPES: usize = 89;
 /// A type and the pointer types of at most nine stars over it.
 const WITH_POINTERS: usize = 10;
 
+/// A kind of types that differ by a number: that of a struct, of a union, of the signature of a function that is pointed
+/// to, or of the type that is pointed to.
+#[derive(Clone, Copy)]
+pub enum Kind {
+    Struct,
+    Union,
+    FunctionPointer,
+    Pointer,
+}
+
 fn same_kind(a: IntKind, b: IntKind) -> bool
     ensures { result ≡ spec.same_kind a b }
 {
@@ -38,52 +48,43 @@ fn is_of_kind(kind: IntKind, ty: &Ty) -> bool
     }
 }
 
-fn is_struct(number: u64, ty: &Ty) -> bool
-    ensures { result ≡ spec.is_struct number ty.now }
-{
-    match ty {
-        Ty::Struct(known) => u64::from(*known) == number,
-        _ => false,
-    }
-}
-
-fn is_union(number: u64, ty: &Ty) -> bool
-    ensures { result ≡ spec.is_union number ty.now }
-{
-    match ty {
-        Ty::Union(known) => u64::from(*known) == number,
-        _ => false,
-    }
-}
-
-fn is_pointer_to_function(number: u64, ty: &Ty) -> bool
-    ensures { result ≡ spec.is_pointer_to_function number ty.now }
-{
-    match ty {
-        Ty::Function(known) => u64::from(*known) == number,
-        _ => false,
-    }
-}
-
 fn is_void_pointer(ty: &Ty) -> bool
     ensures { result ≡ spec.is_void_pointer ty.now }
 {
     matches!(ty, Ty::VoidPointer)
 }
 
-fn is_pointer_to(number: u64, ty: &Ty) -> bool
-    ensures { result ≡ spec.is_pointer_to number ty.now }
+fn is_of(kind: Kind, number: u64, ty: &Ty) -> bool
+    ensures { result ≡ spec.is_of kind number ty.now }
 {
-    match ty {
-        Ty::Pointer(known) => u64::from(*known) == number,
+    match (kind, ty) {
+        (Kind::Struct, Ty::Struct(known)) => u64::from(*known) == number,
+        (Kind::Union, Ty::Union(known)) => u64::from(*known) == number,
+        (Kind::FunctionPointer, Ty::Function(known)) => u64::from(*known) == number,
+        (Kind::Pointer, Ty::Pointer(known)) => u64::from(*known) == number,
         _ => false,
     }
 }
 
-/// Where a table in its usual order has the struct of the number. Unions follow structs, and the pointers to functions
-/// follow unions. It is a hint only: a search that begins there goes through the whole table all the same.
-fn usual_place(number: u64) -> usize {
-    BASE_TYPES.saturating_add(WITH_POINTERS.saturating_mul(number as usize))
+/// Where a table in its usual order has the type that comes after so many structs, unions and pointers to functions.
+fn place_after(count: u64) -> usize {
+    BASE_TYPES.saturating_add(WITH_POINTERS.saturating_mul(count as usize))
+}
+
+/// Where a table in its usual order has the type of the kind and number. Unions follow structs, the pointers to functions
+/// follow unions, and a pointer type follows the type that it points to. It is a hint only: a search that begins there goes
+/// through the whole table all the same.
+fn usual_place(parts: &Parts, kind: Kind, number: u64) -> usize {
+    let structs = parts.structs.as_slice().len() as u64;
+    let unions = parts.unions.as_slice().len() as u64;
+    match kind {
+        Kind::Struct => place_after(number),
+        Kind::Union => place_after(number.saturating_add(structs)),
+        Kind::FunctionPointer => {
+            place_after(number.saturating_add(structs).saturating_add(unions))
+        }
+        Kind::Pointer => (number as usize).saturating_add(1),
+    }
 }
 
 /// The types before `start`, and those from there on. All stand before it where the table is shorter.
@@ -113,55 +114,34 @@ fn has_kinds(parts: &Parts) -> bool
         && has_kind(parts, IntKind::ULongLong)
 }
 
-fn holds_struct(types: &[Ty], number: u64) -> bool
-    ensures { result ≡ list_any (spec.is_struct number) types.now }
+fn holds(types: &[Ty], kind: Kind, number: u64) -> bool
+    ensures { result ≡ list_any (spec.is_of kind number) types.now }
 {
-    types.iter().any(|ty| is_struct(number, ty))
+    types.iter().any(|ty| is_of(kind, number, ty))
 }
 
 #[tactic(auto, using(crate::proofs::Around::around_facts))]
-fn has_struct(parts: &Parts, number: u64) -> bool
-    ensures { result ≡ spec.has_struct parts.now number }
+fn has(parts: &Parts, kind: Kind, number: u64) -> bool
+    ensures { result ≡ spec.has parts.now kind number }
 {
-    let (before, behind) = around(parts.types.as_slice(), usual_place(number));
-    holds_struct(behind, number) || holds_struct(before, number)
+    let (before, behind) = around(parts.types.as_slice(), usual_place(parts, kind, number));
+    holds(behind, kind, number) || holds(before, kind, number)
 }
 
-fn holds_union(types: &[Ty], number: u64) -> bool
-    ensures { result ≡ list_any (spec.is_union number) types.now }
+/// Whether the table has the type of the kind for the number of each entry.
+fn has_each<T>(parts: &Parts, kind: Kind, entries: &[T]) -> bool
+    ensures { result ≡ spec.all_from (spec.has parts.now kind) 0 entries.now }
 {
-    types.iter().any(|ty| is_union(number, ty))
-}
-
-#[tactic(auto, using(crate::proofs::Around::around_facts))]
-fn has_union(parts: &Parts, number: u64) -> bool
-    ensures { result ≡ spec.has_union parts.now number }
-{
-    let structs = parts.structs.as_slice().len() as u64;
-    let (before, behind) = around(
-        parts.types.as_slice(),
-        usual_place(number.saturating_add(structs)),
-    );
-    holds_union(behind, number) || holds_union(before, number)
-}
-
-fn holds_function_pointer(types: &[Ty], number: u64) -> bool
-    ensures { result ≡ list_any (spec.is_pointer_to_function number) types.now }
-{
-    types.iter().any(|ty| is_pointer_to_function(number, ty))
-}
-
-#[tactic(auto, using(crate::proofs::Around::around_facts))]
-fn has_function_pointer(parts: &Parts, number: u64) -> bool
-    ensures { result ≡ spec.has_function_pointer parts.now number }
-{
-    let structs = parts.structs.as_slice().len() as u64;
-    let unions = parts.unions.as_slice().len() as u64;
-    let (before, behind) = around(
-        parts.types.as_slice(),
-        usual_place(number.saturating_add(structs).saturating_add(unions)),
-    );
-    holds_function_pointer(behind, number) || holds_function_pointer(before, number)
+    let mut rest = entries;
+    let mut number = 0u64;
+    while let [_, others @ ..] = rest {
+        if !has(parts, kind, number) {
+            return false;
+        }
+        rest = others;
+        number += 1;
+    }
+    true
 }
 
 fn has_void_pointer(parts: &Parts) -> bool
@@ -179,24 +159,10 @@ fn find(parts: &Parts, number: u64) -> Option<Ty>
     }
 }
 
-fn holds_pointer_to(types: &[Ty], number: u64) -> bool
-    ensures { result ≡ list_any (spec.is_pointer_to number) types.now }
-{
-    types.iter().any(|ty| is_pointer_to(number, ty))
-}
-
-#[tactic(auto, using(crate::proofs::Around::around_facts))]
-fn has_pointer_to(parts: &Parts, number: u64) -> bool
-    ensures { result ≡ list_any (spec.is_pointer_to number) parts.now.types }
-{
-    let (before, behind) = around(parts.types.as_slice(), (number as usize).saturating_add(1));
-    holds_pointer_to(behind, number) || holds_pointer_to(before, number)
-}
-
 fn has_pointer(parts: &Parts, number: u64) -> bool
     ensures { result ≡ spec.has_pointer parts.now number }
 {
-    !has_stars(parts, GREATEST_STARS, find(parts, number)) || has_pointer_to(parts, number)
+    !has_stars(parts, GREATEST_STARS, find(parts, number)) || has(parts, Kind::Pointer, number)
 }
 
 fn is_no_array_pointer(parts: &Parts, ty: &Ty) -> bool
@@ -206,51 +172,6 @@ fn is_no_array_pointer(parts: &Parts, ty: &Ty) -> bool
         Ty::Pointer(to) => !is_array(parts.find_type(*to)),
         _ => true,
     }
-}
-
-fn has_structs(parts: &Parts) -> bool
-    ensures { result ≡ spec.all_from (spec.has_struct parts.now) 0 parts.now.structs }
-{
-    let mut rest = parts.structs.as_slice();
-    let mut number = 0u64;
-    while let [_, others @ ..] = rest {
-        if !has_struct(parts, number) {
-            return false;
-        }
-        rest = others;
-        number += 1;
-    }
-    true
-}
-
-fn has_unions(parts: &Parts) -> bool
-    ensures { result ≡ spec.all_from (spec.has_union parts.now) 0 parts.now.unions }
-{
-    let mut rest = parts.unions.as_slice();
-    let mut number = 0u64;
-    while let [_, others @ ..] = rest {
-        if !has_union(parts, number) {
-            return false;
-        }
-        rest = others;
-        number += 1;
-    }
-    true
-}
-
-fn has_function_pointers(parts: &Parts) -> bool
-    ensures { result ≡ spec.all_from (spec.has_function_pointer parts.now) 0 parts.now.signatures }
-{
-    let mut rest = parts.signatures.as_slice();
-    let mut number = 0u64;
-    while let [_, others @ ..] = rest {
-        if !has_function_pointer(parts, number) {
-            return false;
-        }
-        rest = others;
-        number += 1;
-    }
-    true
 }
 
 fn has_pointers(parts: &Parts) -> bool
@@ -283,9 +204,9 @@ pub fn has_types(parts: &Parts) -> bool
     ensures { result ≡ spec.has_types parts.now }
 {
     has_kinds(parts)
-        && has_structs(parts)
-        && has_unions(parts)
-        && has_function_pointers(parts)
+        && has_each(parts, Kind::Struct, parts.structs.as_slice())
+        && has_each(parts, Kind::Union, parts.unions.as_slice())
+        && has_each(parts, Kind::FunctionPointer, parts.signatures.as_slice())
         && has_void_pointer(parts)
         && has_pointers(parts)
         && has_no_array_pointer(parts)
