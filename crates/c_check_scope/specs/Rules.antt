@@ -1,12 +1,20 @@
 -- Broken rules and their codes.
 use Rattle.std.specs.Prelude.{ℕ, nat_lt, Option, Some, None, Result, Ok, Err, if◌then◌else◌}
 use Rattle.c_check_scope.specs.declared.rule.Rule.{Rule}
-use Rattle.c_check_scope.specs.declared.rule.Rule.TheVariants.{UnknownTag, VoidValue, Undeclared, NotPlace, NoAddress, NoField, NoPointer, Operands, Conversion, Condition, Callee, BuiltIn, VoidResult, InsideUnion, Cast, NameTaken, Fields, ArrayLength, Size, NotScalar, LocalTaken, Initialiser, Undefined, OutsideLoop, Returned, EntryPoint, TooManyLocals, TooMany}
+use Rattle.c_check_scope.specs.declared.rule.Rule.TheVariants.{NameTaken, Fields, UnknownTag, VoidValue, ArrayLength, Size, NotScalar, LocalTaken, Initialiser, Undefined, Undeclared, NotPlace, NoAddress, NoField, NoPointer, Operands, Conversion, Condition, Callee, BuiltIn, OutsideLoop, VoidResult, Returned, InsideUnion, Cast, EntryPoint, TooManyLocals, TooMany}
 
 -- the number of a rule
 unfoldable pub code : Rule → ℕ
+code NameTaken = 1
+code Fields = 2
 code UnknownTag = 3
 code VoidValue = 4
+code ArrayLength = 5
+code Size = 6
+code NotScalar = 7
+code LocalTaken = 8
+code Initialiser = 9
+code Undefined = 10
 code Undeclared = 11
 code NotPlace = 12
 code NoAddress = 13
@@ -17,19 +25,11 @@ code Conversion = 17
 code Condition = 18
 code Callee = 19
 code BuiltIn = 20
+code OutsideLoop = 21
 code VoidResult = 22
+code Returned = 22
 code InsideUnion = 23
 code Cast = 24
-code NameTaken = 1
-code Fields = 2
-code ArrayLength = 5
-code Size = 6
-code NotScalar = 7
-code LocalTaken = 8
-code Initialiser = 9
-code Undefined = 10
-code OutsideLoop = 21
-code Returned = 22
 code EntryPoint = 25
 code TooManyLocals = 26
 code TooMany = 27

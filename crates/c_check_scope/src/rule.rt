@@ -6,10 +6,27 @@ ghost use Rattle.c_check_scope.specs.Rules.{code, least};
 /// A typing rule, named by how it is broken.
 #[derive(Clone, Copy, Debug, PartialEq, Eq)]
 pub enum Rule {
+    /// A tag, or the name of a global or function, is taken.
+    NameTaken,
+    /// A struct or union has no field, or a field name twice.
+    Fields,
     /// A tag by value isn't declared earlier as that kind, or a tag under `*` nowhere in the text.
     UnknownTag,
     /// `void` stands elsewhere than as a result, under `*`, or as the whole of parameters.
     VoidValue,
+    /// An array length is outside 1..1,048,576.
+    ArrayLength,
+    /// A type's size, or the sum of the globals' sizes so far, passes 1,048,576.
+    Size,
+    /// A local, a parameter, or a result other than `void`, isn't a scalar.
+    NotScalar,
+    /// A local or parameter has the name of another one of its function, of its function, of a global or function
+    /// declared earlier, or of a built-in.
+    LocalTaken,
+    /// An initialiser doesn't fit.
+    Initialiser,
+    /// A prototype has no definition later in the text, or one of another type.
+    Undefined,
     /// An identifier isn't declared earlier.
     Undeclared,
     /// The left side of `=` or the operand of `&` isn't a place, or is an array.
@@ -30,33 +47,16 @@ pub enum Rule {
     Callee,
     /// A built-in is used where it may not stand, or a size to allocate isn't a `sizeof` form.
     BuiltIn,
+    /// `break` or `continue` outside a loop.
+    OutsideLoop,
     /// A void call as a right side.
     VoidResult,
+    /// A value returned from a void function, or none from another.
+    Returned,
     /// A struct or union as a right side lies inside a union.
     InsideUnion,
     /// A cast that the language leaves out.
     Cast,
-    /// A tag, or the name of a global or function, is taken.
-    NameTaken,
-    /// A struct or union has no field, or a field name twice.
-    Fields,
-    /// An array length is outside 1..1,048,576.
-    ArrayLength,
-    /// A type's size, or the sum of the globals' sizes so far, passes 1,048,576.
-    Size,
-    /// A local, a parameter, or a result other than `void`, isn't a scalar.
-    NotScalar,
-    /// A local or parameter has the name of another one of its function, of its function, of a global or function
-    /// declared earlier, or of a built-in.
-    LocalTaken,
-    /// An initialiser doesn't fit.
-    Initialiser,
-    /// A prototype has no definition later in the text, or one of another type.
-    Undefined,
-    /// `break` or `continue` outside a loop.
-    OutsideLoop,
-    /// A value returned from a void function, or none from another.
-    Returned,
     /// `init` or `on_message` isn't defined with type `void (void)`.
     EntryPoint,
     /// More than 64 parameters, or 256 locals with parameters.
@@ -72,8 +72,16 @@ impl Rule {
         ensures { result ≡ code self }
     {
         match self {
+            Rule::NameTaken => 1,
+            Rule::Fields => 2,
             Rule::UnknownTag => 3,
             Rule::VoidValue => 4,
+            Rule::ArrayLength => 5,
+            Rule::Size => 6,
+            Rule::NotScalar => 7,
+            Rule::LocalTaken => 8,
+            Rule::Initialiser => 9,
+            Rule::Undefined => 10,
             Rule::Undeclared => 11,
             Rule::NotPlace => 12,
             Rule::NoAddress => 13,
@@ -84,19 +92,11 @@ impl Rule {
             Rule::Condition => 18,
             Rule::Callee => 19,
             Rule::BuiltIn => 20,
+            Rule::OutsideLoop => 21,
             Rule::VoidResult => 22,
+            Rule::Returned => 22,
             Rule::InsideUnion => 23,
             Rule::Cast => 24,
-            Rule::NameTaken => 1,
-            Rule::Fields => 2,
-            Rule::ArrayLength => 5,
-            Rule::Size => 6,
-            Rule::NotScalar => 7,
-            Rule::LocalTaken => 8,
-            Rule::Initialiser => 9,
-            Rule::Undefined => 10,
-            Rule::OutsideLoop => 21,
-            Rule::Returned => 22,
             Rule::EntryPoint => 25,
             Rule::TooManyLocals => 26,
             Rule::TooMany => 27,
