@@ -1,32 +1,12 @@
 // The numbers of signatures and of function pointer types.
 
-ghost use Rattle.std.specs.Prelude.{◌≡◌, ◌<◌, position};
-ghost use Rattle.src_model.specs.Store as store;
+ghost use Rattle.std.specs.Prelude.{◌≡◌, position};
 ghost use Rattle.c_check_type.specs.Declarators as spec;
 
 use c_check_scope::checked::Checked;
 use c_judge::types::Types;
 use c_types::{Signature, Ty, TyId};
-
-fn same_numbers(a: &[TyId], b: &[TyId]) -> bool
-    ensures { result ≡ store.same_numbers a.now b.now }
-{
-    match (a.split_first(), b.split_first()) {
-        (None, None) => true,
-        (Some((x, xs)), Some((y, ys))) => *x == *y && same_numbers(xs, ys),
-        _ => false,
-    }
-}
-
-fn same_result(a: Option<TyId>, b: Option<TyId>) -> bool
-    ensures { result ≡ store.same_result a b }
-{
-    match (a, b) {
-        (None, None) => true,
-        (Some(a), Some(b)) => a == b,
-        _ => false,
-    }
-}
+use src_model::signatures::{same_numbers, same_result};
 
 /// Whether two signatures are equal.
 pub fn same_signature(a: &Signature, b: &Signature) -> bool

@@ -13,6 +13,7 @@ pub mod first;
 mod initial;
 mod integers;
 pub mod program;
+pub mod signatures;
 pub mod stmt;
 mod valid;
 mod valid_depth;

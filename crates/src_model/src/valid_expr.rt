@@ -11,6 +11,7 @@ ghost use Rattle.src_model.specs.ValidSeen.{seen};
 use crate::constant::is_zero_literal;
 use crate::expr::{ExprKind, PlaceKind, TypedExpr, TypedPlace};
 use crate::program::{Function, Program};
+use crate::signatures::{same_numbers, same_result};
 use crate::valid_fits::{
     address_fits, binary_fits, cast_fits, conditional_fits, decay_fits, element_fits, is_number,
     item_fits, load_fits, logical_fits, type_of, unary_fits,
@@ -48,26 +49,6 @@ fn is_local(at: &Declarations, number: u32, ty: TyId) -> bool
     match local_type(at, number) {
         Some(known) => ty == known,
         None => false,
-    }
-}
-
-fn same_numbers(a: &[TyId], b: &[TyId]) -> bool
-    ensures { result ≡ store.same_numbers a.now b.now }
-{
-    match (a.split_first(), b.split_first()) {
-        (None, None) => true,
-        (Some((x, xs)), Some((y, ys))) => *x == *y && same_numbers(xs, ys),
-        _ => false,
-    }
-}
-
-fn same_result(a: Option<TyId>, b: Option<TyId>) -> bool
-    ensures { result ≡ store.same_result a b }
-{
-    match (a, b) {
-        (None, None) => true,
-        (Some(a), Some(b)) => a == b,
-        _ => false,
     }
 }
 

@@ -1,5 +1,5 @@
 use Rattle.std.proofs.Common.{length}
-use Rattle.src_model.proofs.valid_expr.+same_numbers.Given as goal
+use Rattle.src_model.proofs.signatures.+same_numbers.Given as goal
 
 abbrev pub decreases-same_numbers : goal.decreases-same_numbers
 decreases-same_numbers l = length l.a.now
