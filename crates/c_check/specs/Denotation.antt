@@ -1,5 +1,5 @@
 -- What a text denotes: a program, or the first declaration that breaks a rule.
-use Rattle.std.specs.Prelude.{◌≡◌, ℕ, Bool, ◌&&◌, IsTrue, List, Ok, Err}
+use Rattle.std.specs.Prelude.{◌≡◌, ℕ, nat_eq, Bool, ◌&&◌, IsTrue, List, length, Ok, Err}
 use Rattle.c_types.specs.declared.parts.TheConstants.{POINTER_SIZE}
 use Rattle.c_types.specs.declared.parts.Parts.{Parts}
 use Rattle.c_types.specs.Refusal.{IsBuilt}
@@ -8,6 +8,7 @@ use Rattle.src_model.specs.declared.program.Program.{Program}
 use Rattle.src_model.specs.ValidTable.{has_types}
 use Rattle.c_check_scope.specs.declared.scope.Scope.{Scope}
 use Rattle.c_check_scope.specs.Rules.{code}
+use Rattle.c_check_outline.specs.Outlines.{outline}
 use Rattle.c_check_known.specs.Known.{knows_declarations}
 use Rattle.c_check_known.specs.Tally.{has_records}
 use Rattle.c_check.specs.declared.verdict.Broken.{Broken}
@@ -23,8 +24,12 @@ has_declarations scope text = knows_declarations scope text && has_records scope
 unfoldable pub has_common : Parts → Bool
 has_common p = has_types p
 
+-- as many structs and unions as the text declares, and so no others
+unfoldable pub has_as_many : Parts → List Declaration → Bool
+has_as_many p text = nat_eq (length p.structs) (outline text).structs && nat_eq (length p.unions) (outline text).unions
+
 abbrev pub has_text : Parts → List Declaration → Bool
-has_text p text = has_common p && has_declarations (scope_of p text) text
+has_text p text = has_common p && (has_as_many p text && has_declarations (scope_of p text) text)
 
 -- a table of the types of a text
 pub record IsTableOf (text : List Declaration) (p : Parts) : Type 0 where

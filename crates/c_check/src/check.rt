@@ -69,11 +69,23 @@ fn has_common(table: &TypeTable) -> bool
     has_types(table.parts())
 }
 
+/// Whether a table has as many structs and unions as a text declares.
+#[tactic(auto, unfolding(crate::specs::Denotation::has_as_many))]
+fn has_as_many(alloc: Global, table: &TypeTable, text: &[Decl]) -> Result<bool, AllocError>
+    ensures { IfOk result (λ has. has ≡ denotation.has_as_many table.now (declarations text.now)) }
+{
+    let outline = outline(alloc, text)?;
+    let parts = table.parts();
+    let structs = parts.structs.as_slice().len();
+    let unions = parts.unions.as_slice().len();
+    Ok(structs == outline.structs as usize && unions == outline.unions as usize)
+}
+
 /// Whether a table has the types that each program has, and those of a text.
 fn has_text(alloc: Global, table: &TypeTable, text: &[Decl]) -> Result<bool, AllocError>
     ensures { IfOk result (λ has. has ≡ denotation.has_text table.now (declarations text.now)) }
 {
-    if has_common(table) {
+    if has_common(table) && has_as_many(alloc, table, text)? {
         has_declarations(alloc, table, text)
     } else {
         Ok(false)
