@@ -1,4 +1,4 @@
--- One declaration of a text: what stands after it, or the broken rule of the least code.
+-- One declaration of a text: what stands after it, or the rules that it breaks.
 use Rattle.std.specs.Prelude.{List}
 use Rattle.c_ast.specs.Trees.{Declaration, Record, Global, Prototype, Definition}
 use Rattle.c_check_scope.specs.Rules.{Checked}

@@ -1,5 +1,5 @@
 -- What a text denotes: a program, or the first declaration that breaks a rule.
-use Rattle.std.specs.Prelude.{◌≡◌, ℕ, nat_eq, Bool, ◌&&◌, IsTrue, List, length, Ok, Err}
+use Rattle.std.specs.Prelude.{◌≡◌, ℕ, nat_eq, Bool, true, ◌&&◌, IsTrue, List, length, Ok, Err}
 use Rattle.c_types.specs.declared.parts.TheConstants.{POINTER_SIZE}
 use Rattle.c_types.specs.declared.parts.Parts.{Parts}
 use Rattle.c_types.specs.Refusal.{IsBuilt}
@@ -7,7 +7,7 @@ use Rattle.c_ast.specs.Trees.{Declaration}
 use Rattle.src_model.specs.declared.program.Program.{Program}
 use Rattle.src_model.specs.ValidTable.{has_types}
 use Rattle.c_check_scope.specs.declared.scope.Scope.{Scope}
-use Rattle.c_check_scope.specs.Rules.{code}
+use Rattle.c_check_scope.specs.Rules.{has, IsLeast}
 use Rattle.c_check_outline.specs.Outlines.{outline}
 use Rattle.c_check_known.specs.Known.{knows_declarations}
 use Rattle.c_check_known.specs.Tally.{has_records}
@@ -41,7 +41,7 @@ pub record Denotes (text : List Declaration) (program : Program) : Type 0 where
   pub types : IsTableOf text program.types
   pub is : verdict program.types text ≡ Ok program
 
--- this declaration of a text is the first that breaks a rule, and this the broken rule of the least code
+-- this declaration of a text is the first that breaks a rule, and these are the rules that it breaks
 pub record Breaks (text : List Declaration) (broken : Broken) : Type 0 where
   pub types : Parts
   pub table : IsTableOf text types
@@ -52,7 +52,7 @@ pub record BreaksAt (text : List Declaration) (number least : ℕ) : Type 0 wher
   pub broken : Broken
   pub first : Breaks text broken
   pub decl : broken.decl ≡ number
-  pub code : code broken.rule ≡ least
+  pub code : IsLeast (λ c. has broken.rules c ≡ true) least
 
 abbrev pub Refuses : List Declaration → CheckError → Type 0
 Refuses text (Rule decl least) = BreaksAt text decl least

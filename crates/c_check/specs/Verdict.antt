@@ -1,4 +1,4 @@
--- The first declaration of a text that breaks a rule, with the least code; or the program of the text.
+-- The first declaration of a text that breaks a rule, with the rules that it breaks; or the program of the text.
 use Rattle.std.specs.Prelude.{ℕ, ◌+◌, Bool, true, false, ◌&&◌, List, [], ◌∷◌, Option, Some, None, Result, Ok, Err, codes, slice_get, if◌then◌else◌}
 use Rattle.std.specs.Option.{option_map_or}
 use Rattle.c_types.specs.declared.parts.Parts.{Parts}
@@ -9,7 +9,7 @@ use Rattle.c_check_scope.specs.declared.scope.Scope.{Scope}
 use Rattle.c_check_scope.specs.declared.scope.Meaning.{Meaning}
 use Rattle.c_check_scope.specs.declared.scope.Meaning.TheVariants.{Function}
 use Rattle.c_check_scope.specs.declared.rule.Rule.TheVariants.{EntryPoint}
-use Rattle.c_check_scope.specs.Rules.{Checked}
+use Rattle.c_check_scope.specs.Rules.{Checked, only}
 use Rattle.c_check_scope.specs.Names.{global_of}
 use Rattle.c_check_outline.specs.Outlines.{outline}
 use Rattle.c_check_known.specs.Start.{start_scope}
@@ -46,12 +46,12 @@ has_handlers s = has_handler s (codes "init") && has_handler s (codes "on_messag
 
 -- at the end of a text: the next number is named where a function is missing
 unfoldable pub ended : ℕ → Standing → Result Standing Broken
-ended n s = if has_handlers s then Ok s else Err (record { decl = n; rule = EntryPoint })
+ended n s = if has_handlers s then Ok s else Err (record { decl = n; rules = only EntryPoint })
 
 -- ---- along the text
 
 abbrev pub or_broken : ℕ → Checked Standing → (Standing → Result Standing Broken) → Result Standing Broken
-or_broken n (Err r) next = Err (record { decl = n; rule = r })
+or_broken n (Err r) next = Err (record { decl = n; rules = r })
 or_broken n (Ok s) next = next s
 
 -- from declaration n on

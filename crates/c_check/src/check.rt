@@ -201,7 +201,7 @@ pub fn check(alloc: Global, text: &[Decl]) -> Result<Program, CheckError>
     match denoted(alloc, text)? {
         Err(broken) => Err(CheckError::Rule {
             decl: broken.decl,
-            code: broken.rule.code(),
+            code: broken.rules.least(),
         }),
         Ok(program) => {
             if program.valid_where_distinct() {

@@ -13,7 +13,7 @@ use c_check_standing::standing::{Functions, Standing};
 use src_model::program::Program;
 use std::alloc::{AllocError, Global};
 
-/// What stands after a declaration of a text, or the broken rule of the least code.
+/// What stands after a declaration of a text, or the rules that it breaks.
 #[tactic(auto, unfolding(crate::specs::Declarations::declared))]
 pub fn declared(
     alloc: Global,

@@ -8,6 +8,7 @@ ghost use Rattle.c_check.specs.Verdict as spec;
 use crate::declaration::declared;
 use c_ast::decl::Decl;
 use c_check_scope::rule::Rule;
+use c_check_scope::rules::Rules;
 use c_check_scope::scope::Meaning;
 use c_check_standing::standing::{Functions, Standing};
 use lu_base::Name;
@@ -21,8 +22,8 @@ pub struct Broken {
     /// Its number in the text, counted from 1. A function that each program has and the text hasn't is named at the
     /// number of declarations plus 1.
     pub decl: usize,
-    /// Of the rules that it breaks the one of the least code.
-    pub rule: Rule,
+    /// The rules that it breaks.
+    pub rules: Rules,
 }
 
 fn is_handler(function: &Function) -> bool
@@ -74,7 +75,7 @@ fn ended(
     } else {
         Ok(Err(Broken {
             decl: number,
-            rule: Rule::EntryPoint,
+            rules: Rules::only(Rule::EntryPoint),
         }))
     }
 }
@@ -95,7 +96,10 @@ pub fn judged(
     let mut number = 1usize;
     for decl in text {
         match declared(alloc, types, text, functions, so_far, decl)? {
-            Err(rule) => return Ok(Err(Broken { decl: number, rule })),
+            Err(rules) => return Ok(Err(Broken {
+                decl: number,
+                rules,
+            })),
             Ok(next) => so_far = next,
         }
         let Some(following) = number.checked_add(1) else {

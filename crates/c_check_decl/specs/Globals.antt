@@ -1,4 +1,4 @@
--- Globals as they are declared: their types and initialisers, or the broken rule of the least code.
+-- Globals as they are declared: their types and initialisers, or the rules that they break.
 use Rattle.std.specs.Prelude.{ℕ, ◌+◌, nat_eq, Bool, false, ◌&&◌, ◌||◌, not, List, [], ◌∷◌, ◌++◌, length, Option, Some, None, is_some, Ok, Err, slice_get, if◌then◌else◌}
 use Rattle.lu_spec.specs.Then.{then_option, then_do}
 use Rattle.c_types.specs.declared.parts.Ty.{Ty}
@@ -12,9 +12,8 @@ use Rattle.src_model.specs.Constant.{is_address_constant, constant_value, if_ok}
 use Rattle.src_model.specs.Initial.{initial_scope}
 use Rattle.src_model.specs.ValidInitialiser.{takes_bytes, item_type}
 use Rattle.c_check_scope.specs.declared.scope.Scope.{Scope}
-use Rattle.c_check_scope.specs.declared.rule.Rule.{Rule}
 use Rattle.c_check_scope.specs.declared.rule.Rule.TheVariants.{Undeclared, Initialiser}
-use Rattle.c_check_scope.specs.Rules.{Checked, both, broken, least}
+use Rattle.c_check_scope.specs.Rules.{Rules, Checked, both, broken, only, union}
 use Rattle.c_check_scope.specs.Names.{number_named, flat, meaning_of}
 use Rattle.c_check_expr.specs.Denoted.{type_at}
 use Rattle.c_check_expr.specs.Typing.{typed}
@@ -66,28 +65,28 @@ is_later scope functions ty (Cond c a b) = false
 -- ---- initialisers of scalars and of strings
 
 unfoldable pub settled : Program → Checked TypedExpr → Checked Init
-settled types (Ok e) = if is_start_value types e then Ok (One e) else Err Initialiser
-settled types (Err r) = Err (least Initialiser r)
+settled types (Ok e) = if is_start_value types e then Ok (One e) else Err (only Initialiser)
+settled types (Err r) = Err (union (only Initialiser) r)
 
 -- an expression, as a right side for the type; what names a function too early fits, but isn't declared
 unfoldable pub single : Scope → List (Option ℕ) → ℕ → Expression → Checked Init
 single scope functions t e =
-    if is_later scope functions (type_at scope.types t) e then Err Undeclared else settled (types_alone scope.types) (right_side scope t e)
+    if is_later scope functions (type_at scope.types t) e then Err (only Undeclared) else settled (types_alone scope.types) (right_side scope t e)
 
 -- a string, for an array of chars that is long enough
 unfoldable pub text : Parts → ℕ → Text → Checked Init
-text p t b = if takes_bytes p (slice_get p.types t) (length b) then Ok (Text_init b) else Err Initialiser
+text p t b = if takes_bytes p (slice_get p.types t) (length b) then Ok (Text_init b) else Err (only Initialiser)
 
 -- ---- initialisers
 
 abbrev mutual
-  -- a broken rule with those that the expressions of an initialiser break by themselves
-  pub unfit : Scope → Rule → Initializer → Rule
+  -- broken rules with those that the expressions of an initialiser break by themselves
+  pub unfit : Scope → Rules → Initializer → Rules
   unfit scope r (Single e) = broken r (typed scope e)
   unfit scope r (Bytes b) = r
   unfit scope r (Braces is comma) = unfit_all scope r is
 
-  pub unfit_all : Scope → Rule → Initializers → Rule
+  pub unfit_all : Scope → Rules → Initializers → Rules
   unfit_all scope r NoMore = r
   unfit_all scope r (Next i is) = unfit_all scope (unfit scope r i) is
 
@@ -96,14 +95,14 @@ one_more done i = then_do (both done i) (λ x. Ok (x.0 ++ (x.1 ∷ [])))
 
 -- between braces stands at least one item
 unfoldable pub braced : Checked (List Init) → Checked Init
-braced (Ok []) = Err Initialiser
+braced (Ok []) = Err (only Initialiser)
 braced (Ok (i ∷ is)) = Ok (Listed (i ∷ is))
 braced (Err r) = Err r
 
 abbrev mutual
   -- an initialiser of a type; where there is none, nothing fits
   pub start : Scope → List (Option ℕ) → Option ℕ → Initializer → Checked Init
-  start scope functions None i = Err (unfit scope Initialiser i)
+  start scope functions None i = Err (unfit scope (only Initialiser) i)
   start scope functions (Some t) (Single e) = single scope functions t e
   start scope functions (Some t) (Bytes b) = text scope.types t b
   start scope functions (Some t) (Braces is comma) = braced (starts scope functions t 0 (Ok []) is)
@@ -121,7 +120,7 @@ abbrev pub started : Scope → List (Option ℕ) → ℕ → Option Initializer 
 started scope functions t None = Ok Zero
 started scope functions t (Some i) = start scope functions (Some t) i
 
-abbrev pub unfit_if_any : Scope → Rule → Option Initializer → Rule
+abbrev pub unfit_if_any : Scope → Rules → Option Initializer → Rules
 unfit_if_any scope r None = r
 unfit_if_any scope r (Some i) = unfit scope r i
 
@@ -133,7 +132,7 @@ typed_global scope functions (Err r) i = Err (unfit_if_any scope r i)
 typed_global scope functions (Ok ty) i =
     then_do (started scope functions (object_number scope.types ty) i) (λ init. Ok (declared_global scope.types ty init))
 
--- a global with its type, size and initialiser, or the broken rule of the least code; `functions` has the signatures of
+-- a global with its type, size and initialiser, or the rules that it breaks; `functions` has the signatures of
 -- all functions of the text, by the numbers of their names
 unfoldable pub global : Scope → List (Option ℕ) → Object → Option Initializer → Checked DeclaredGlobal
 global scope functions o i = typed_global scope functions (small_type scope o) i

@@ -1,4 +1,4 @@
--- Structs and unions as they are declared: their fields, or the broken rule of the least code.
+-- Structs and unions as they are declared: their fields, or the rules that they break.
 use Rattle.std.specs.Prelude.{ℕ, ◌*◌, nat_lt, not, Bool, true, false, List, [], ◌∷◌, ◌++◌, length, Option, Some, None, is_some, Ok, Err, if◌then◌else◌}
 use Rattle.std.specs.Option.{option_map_or}
 use Rattle.lu_spec.specs.Then.{then_do}
@@ -12,7 +12,7 @@ use Rattle.c_ast.specs.Trees.{Text, Object}
 use Rattle.c_check_scope.specs.declared.scope.Scope.{Scope}
 use Rattle.c_check_scope.specs.declared.rule.Rule.{Rule}
 use Rattle.c_check_scope.specs.declared.rule.Rule.TheVariants.{Fields, Size, TooMany}
-use Rattle.c_check_scope.specs.Rules.{Checked, both, broken}
+use Rattle.c_check_scope.specs.Rules.{Checked, both, broken, only}
 use Rattle.c_check_scope.specs.Names.{number_named, with_name, object_name}
 use Rattle.c_check_type.specs.declared.objects.ObjectType.{ObjectType}
 use Rattle.c_check_type.specs.Declarators.{object_type, object_number}
@@ -30,7 +30,7 @@ object_size p ty = size_of POINTER_SIZE p ty.element * elements ty.count
 
 -- of at most 1,048,576 bytes
 unfoldable pub small : Parts → Checked ObjectType → Checked ObjectType
-small p ty = then_do ty (λ t. if nat_lt greatest (object_size p t) then Err Size else Ok t)
+small p ty = then_do ty (λ t. if nat_lt greatest (object_size p t) then Err (only Size) else Ok t)
 
 -- the type of a field or global
 unfoldable pub small_type : Scope → Object → Checked ObjectType
@@ -76,17 +76,17 @@ record_size p Union members = (union_shape (shape_of POINTER_SIZE p) members).si
 -- of at most 1,048,576 bytes
 unfoldable pub small_record : Parts → TagKind → Checked (List FieldDef) → Checked (List FieldDef)
 small_record p kind fs =
-    then_do fs (λ l. if nat_lt greatest (record_size p kind l) then Err Size else Ok l)
+    then_do fs (λ l. if nat_lt greatest (record_size p kind l) then Err (only Size) else Ok l)
 
 -- what is judged, with one more rule
 unfoldable pub with_rule : {A : Type 0} → Bool → Rule → Checked A → Checked A
-with_rule keeps r a = if keeps then a else Err (broken r a)
+with_rule keeps r a = if keeps then a else Err (broken (only r) a)
 
 -- at most 4,096 fields
 abbrev pub few : List Object → Bool
 few os = not (nat_lt 4096 (length os))
 
--- the fields of a struct or union, or the broken rule of the least code
+-- the fields of a struct or union, or the rules that they break
 unfoldable pub record_fields : Scope → TagKind → List Object → Checked (List FieldDef)
 record_fields scope kind os =
     with_rule (well_named os) Fields (with_rule (few os) TooMany (small_record scope.types kind (fields_after scope (Ok []) os)))

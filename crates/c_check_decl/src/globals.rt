@@ -8,7 +8,7 @@ use crate::initialisers::{start, unfit};
 use crate::objects::{object_size, small_type};
 use c_ast::decl::{Init as Initializer, Named};
 use c_check_scope::checked::Checked;
-use c_check_scope::rule::Rule;
+use c_check_scope::rules::Rules;
 use c_check_scope::scope::Scope;
 use c_check_type::objects::{ObjectType, object_number};
 use c_types::TyId;
@@ -46,14 +46,14 @@ fn started(
 fn unfit_if_any(
     alloc: Global,
     scope: &Scope,
-    rule: Rule,
+    rules: Rules,
     init: &Option<Boxed<Initializer>>,
-) -> Result<Rule, AllocError>
-    ensures { IfOk result (λ r. r ≡ spec.unfit_if_any scope.now rule (initializer_if_any init.now)) }
+) -> Result<Rules, AllocError>
+    ensures { IfOk result (λ r. r ≡ spec.unfit_if_any scope.now rules (initializer_if_any init.now)) }
 {
     match init {
-        None => Ok(rule),
-        Some(init) => unfit(alloc, scope, rule, init.get()),
+        None => Ok(rules),
+        Some(init) => unfit(alloc, scope, rules, init.get()),
     }
 }
 
@@ -82,18 +82,18 @@ fn typed_global(
     ensures { IfOk result (λ g. g ≡ spec.typed_global scope.now functions.now ty (initializer_if_any init.now)) }
 {
     match ty {
-        Err(rule) => Ok(Err(unfit_if_any(alloc, scope, rule, init)?)),
+        Err(rules) => Ok(Err(unfit_if_any(alloc, scope, rules, init)?)),
         Ok(ty) => {
             let number = object_number(&scope.types, ty);
             match started(alloc, scope, types, functions, number, init)? {
-                Err(rule) => Ok(Err(rule)),
+                Err(rules) => Ok(Err(rules)),
                 Ok(init) => Ok(Ok(declared_global(scope, types, ty, init))),
             }
         }
     }
 }
 
-/// A global with its type, size and initialiser, or the broken rule of the least code. `types` has the types of the
+/// A global with its type, size and initialiser, or the rules that it breaks. `types` has the types of the
 /// scope alone, and `functions` the signatures of all functions of the text by the numbers of their names: where a
 /// function pointer begins with one that is declared only later, its name isn't declared.
 #[tactic(auto, unfolding(crate::specs::Globals::global))]

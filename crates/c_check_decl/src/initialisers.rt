@@ -3,7 +3,7 @@
 ghost use Rattle.std.specs.Prelude.{◌≡◌, IfOk, [], Some, Ok};
 ghost use Rattle.c_ast.specs.Trees.{expression, initializer, initializers};
 ghost use Rattle.src_model.specs.ValidInitialiser as valid;
-ghost use Rattle.c_check_scope.specs.Rules as rules;
+ghost use Rattle.c_check_scope.specs.Rules as checks;
 ghost use Rattle.c_check_expr.specs.Typing.{typed};
 ghost use Rattle.c_check_decl.specs.Globals as spec;
 
@@ -14,34 +14,35 @@ use c_check_expr::typing::denoted;
 use c_check_expr::values::valued;
 use c_check_scope::checked::{Checked, both, broken};
 use c_check_scope::rule::Rule;
+use c_check_scope::rules::Rules;
 use c_check_scope::scope::Scope;
 use c_types::{Parts, Ty, TyId};
 use sqlite_items::Items;
 use src_model::program::{Init, Program};
 use std::alloc::{AllocError, Global};
 
-fn unfit_value(alloc: Global, scope: &Scope, rule: Rule, e: &Expr) -> Result<Rule, AllocError>
-    ensures { IfOk result (λ r. r ≡ rules.broken rule (typed scope.now (expression e.now))) }
+fn unfit_value(alloc: Global, scope: &Scope, rules: Rules, e: &Expr) -> Result<Rules, AllocError>
+    ensures { IfOk result (λ r. r ≡ checks.broken rules (typed scope.now (expression e.now))) }
 {
     let e = denoted(alloc, scope, e)?;
-    Ok(broken(rule, valued(alloc, &scope.types, e)?))
+    Ok(broken(rules, valued(alloc, &scope.types, e)?))
 }
 
-/// The least of this broken rule and those that the expressions of an initialiser break by themselves.
+/// These broken rules and those that the expressions of an initialiser break by themselves.
 #[cycle(unfit)]
 #[tactic(auto, using(c_ast::proofs::Views::views))]
 pub fn unfit(
     alloc: Global,
     scope: &Scope,
-    rule: Rule,
+    rules: Rules,
     init: &Initializer,
-) -> Result<Rule, AllocError>
-    ensures { IfOk result (λ r. r ≡ spec.unfit scope.now rule (initializer init.now)) }
+) -> Result<Rules, AllocError>
+    ensures { IfOk result (λ r. r ≡ spec.unfit scope.now rules (initializer init.now)) }
 {
     match init {
-        Initializer::Value(e) => unfit_value(alloc, scope, rule, e.get()),
-        Initializer::Text(_) => Ok(rule),
-        Initializer::List(inits, _) => unfit_all(alloc, scope, rule, inits.as_slice()),
+        Initializer::Value(e) => unfit_value(alloc, scope, rules, e.get()),
+        Initializer::Text(_) => Ok(rules),
+        Initializer::List(inits, _) => unfit_all(alloc, scope, rules, inits.as_slice()),
     }
 }
 
@@ -49,16 +50,16 @@ pub fn unfit(
 fn unfit_all(
     alloc: Global,
     scope: &Scope,
-    rule: Rule,
+    rules: Rules,
     inits: &[Initializer],
-) -> Result<Rule, AllocError>
-    ensures { IfOk result (λ r. r ≡ spec.unfit_all scope.now rule (initializers inits.now)) }
+) -> Result<Rules, AllocError>
+    ensures { IfOk result (λ r. r ≡ spec.unfit_all scope.now rules (initializers inits.now)) }
 {
-    let mut least = rule;
+    let mut all = rules;
     for init in inits {
-        least = unfit(alloc, scope, least, init)?;
+        all = unfit(alloc, scope, all, init)?;
     }
-    Ok(least)
+    Ok(all)
 }
 
 /// The type of element k of an array, or of field k of a struct.
@@ -89,7 +90,7 @@ fn one_more(
     ensures { IfOk result (λ inits. inits ≡ spec.one_more done init) }
 {
     match both(done, init) {
-        Err(rule) => Ok(Err(rule)),
+        Err(rules) => Ok(Err(rules)),
         Ok((mut inits, init)) => {
             inits.push(init)?;
             Ok(Ok(inits))
@@ -102,10 +103,10 @@ fn braced(inits: Checked<Items<Init>>) -> Checked<Init>
     ensures { result ≡ spec.braced inits }
 {
     match inits {
-        Err(rule) => Err(rule),
+        Err(rules) => Err(rules),
         Ok(inits) => {
             if inits.is_empty() {
-                Err(Rule::Initialiser)
+                Err(Rules::only(Rule::Initialiser))
             } else {
                 Ok(Init::List(inits))
             }
@@ -127,7 +128,7 @@ pub fn start(
     ensures { IfOk result (λ i. i ≡ spec.start scope.now functions.now ty (initializer init.now)) }
 {
     match ty {
-        None => Ok(Err(unfit(alloc, scope, Rule::Initialiser, init)?)),
+        None => Ok(Err(unfit(alloc, scope, Rules::only(Rule::Initialiser), init)?)),
         Some(ty) => start_of_type(alloc, scope, types, functions, ty, init),
     }
 }

@@ -1,5 +1,5 @@
 //! Declarations without statements, in a scope: the fields of structs and unions, and globals with their initialisers;
-//! or the least code of the rules that they break.
+//! or the rules that they break.
 #![tactic(auto)]
 
 pub mod constants;

@@ -7,6 +7,7 @@ ghost use Rattle.c_check_decl.specs.Records as spec;
 use c_ast::decl::Named;
 use c_check_scope::checked::Checked;
 use c_check_scope::rule::Rule;
+use c_check_scope::rules::Rules;
 use c_check_scope::scope::Scope;
 use c_check_type::objects::{ObjectType, object_type};
 use c_types::{GREATEST, TypeTable};
@@ -29,10 +30,10 @@ fn small(table: &TypeTable, ty: Checked<ObjectType>) -> Checked<ObjectType>
     ensures { result ≡ spec.small table.now ty }
 {
     match ty {
-        Err(rule) => Err(rule),
+        Err(rules) => Err(rules),
         Ok(ty) => {
             if (GREATEST as u64) < object_size(table, ty) {
-                Err(Rule::Size)
+                Err(Rules::only(Rule::Size))
             } else {
                 Ok(ty)
             }

@@ -12,6 +12,7 @@ use c_check_scope::checked::{Checked, both, broken};
 use c_check_scope::names::{Names, object_name};
 use c_check_scope::numbers::as_number;
 use c_check_scope::rule::Rule;
+use c_check_scope::rules::Rules;
 use c_check_scope::scope::Scope;
 use c_check_type::objects::object_number;
 use c_types::{FieldDef, GREATEST, Sequence, TypeTable};
@@ -43,7 +44,7 @@ fn field(
     ensures { IfOk result (λ f. f ≡ spec.field scope.now (object named.now)) }
 {
     match small_type(alloc, scope, table, named)? {
-        Err(rule) => Ok(Err(rule)),
+        Err(rules) => Ok(Err(rules)),
         Ok(ty) => {
             let name = name_number(scope, object_name(named))?;
             Ok(Ok(FieldDef {
@@ -62,7 +63,7 @@ fn one_more(
     ensures { IfOk result (λ fields. fields ≡ spec.one_more done field) }
 {
     match both(done, field) {
-        Err(rule) => Ok(Err(rule)),
+        Err(rules) => Ok(Err(rules)),
         Ok((done, field)) => {
             let mut fields = done.into_vec();
             fields.push(field)?;
@@ -125,7 +126,7 @@ fn with_rule<A: Drop>(keeps: bool, rule: Rule, judged: Checked<A>) -> Checked<A>
     if keeps {
         judged
     } else {
-        Err(broken(rule, judged))
+        Err(broken(Rules::only(rule), judged))
     }
 }
 
@@ -138,10 +139,10 @@ fn small_record(
     ensures { result ≡ spec.small_record table.now kind fields }
 {
     match fields {
-        Err(rule) => Err(rule),
+        Err(rules) => Err(rules),
         Ok(fields) => {
             if (GREATEST as u128) < record_size(table, kind, fields.as_slice()) {
-                Err(Rule::Size)
+                Err(Rules::only(Rule::Size))
             } else {
                 Ok(fields)
             }
@@ -150,8 +151,7 @@ fn small_record(
 }
 
 /// The fields of a struct or union: at least one, at most 4,096, no name twice, each of at most 1,048,576 bytes, and
-/// so the whole, which is judged where each field has a type. Of the rules that are broken it is the one of the least
-/// code. A field's name has its number in the text, or 0 where it isn't there.
+/// so the whole, which is judged where each field has a type; or the rules that are broken. A field's name has its number in the text, or 0 where it isn't there.
 #[tactic(auto, unfolding(crate::specs::Records::record_fields))]
 pub fn record_fields(
     alloc: Global,

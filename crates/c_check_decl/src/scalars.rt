@@ -10,7 +10,8 @@ use c_ast::expr::Expr;
 use c_check_expr::uses::right_side;
 use c_check_expr::values::type_at;
 use c_check_scope::checked::Checked;
-use c_check_scope::rule::{Rule, least};
+use c_check_scope::rule::Rule;
+use c_check_scope::rules::Rules;
 use c_check_scope::scope::Scope;
 use c_types::{IntKind, Parts, Ty, TyId};
 use lu_base::{Bytes8, Name};
@@ -74,12 +75,12 @@ fn settled(types: &Program, e: Checked<Boxed<TypedExpr>>) -> Checked<Init>
     ensures { result ≡ spec.settled types.now e }
 {
     match e {
-        Err(rule) => Err(least(Rule::Initialiser, rule)),
+        Err(rules) => Err(Rules::union(Rules::only(Rule::Initialiser), rules)),
         Ok(e) => {
             if is_start_value(types, e.get()) {
                 Ok(Init::One(e.into_inner()))
             } else {
-                Err(Rule::Initialiser)
+                Err(Rules::only(Rule::Initialiser))
             }
         }
     }
@@ -99,7 +100,7 @@ pub fn single(
     ensures { IfOk result (λ init. init ≡ spec.single scope.now functions.now ty (expression e.now)) }
 {
     if is_later(scope, functions, type_at(&scope.types, ty), e) {
-        return Ok(Err(Rule::Undeclared));
+        return Ok(Err(Rules::only(Rule::Undeclared)));
     }
     Ok(settled(types, right_side(alloc, scope, ty, e)?))
 }
@@ -138,6 +139,6 @@ pub fn text(
         let bytes = Vec::from_slice(alloc, bytes.as_slice())?;
         Ok(Ok(Init::Text(Bytes8::new(bytes))))
     } else {
-        Ok(Err(Rule::Initialiser))
+        Ok(Err(Rules::only(Rule::Initialiser)))
     }
 }

@@ -23,7 +23,7 @@ use Rattle.c_check_scope.specs.declared.scope.Scope.{Scope}
 use Rattle.c_check_scope.specs.declared.scope.BuiltIn.{BuiltIn as Which}
 use Rattle.c_check_scope.specs.declared.scope.BuiltIn.TheVariants.{Send, Malloc, Calloc, Free, Panic}
 use Rattle.c_check_scope.specs.declared.rule.Rule.TheVariants.{Callee, BuiltIn, VoidResult, Conversion}
-use Rattle.c_check_scope.specs.Rules.{Checked, both, broken}
+use Rattle.c_check_scope.specs.Rules.{Checked, both, broken, only}
 use Rattle.c_check_expr.specs.Denoted.{type_at, number, valued}
 use Rattle.c_check_expr.specs.Typing.{denoted, typed, named}
 use Rattle.c_check_expr.specs.Uses.{right_side}
@@ -31,7 +31,7 @@ use Rattle.c_check_expr.specs.Uses.{right_side}
 -- ---- what is called
 
 abbrev pub callee_in : TypedExpr → Option ℕ → Checked Called
-callee_in e None = Err Callee
+callee_in e None = Err (only Callee)
 callee_in e (Some g) = Ok (C.Pointer e g)
 
 unfoldable pub pointer_callee : Parts → TypedExpr → Checked Called
@@ -91,7 +91,7 @@ argument scope (Some t) e = right_side scope t e
 
 -- that of a place, if there is one
 unfoldable pub argument_at : Scope → Option ℕ → Option Expression → Checked TypedExpr
-argument_at scope t None = Err Callee
+argument_at scope t None = Err (only Callee)
 argument_at scope t (Some e) = argument scope t e
 
 unfoldable pub more : Checked (List TypedExpr) → Checked TypedExpr → Checked (List TypedExpr)
@@ -116,7 +116,7 @@ gathered scope es ts = gathered_after scope (Ok []) es ts
 -- as many arguments as parameters, each for its own
 unfoldable pub arguments : Scope → List Expression → List ℕ → Checked (List TypedExpr)
 arguments scope es ts =
-    if nat_eq (length es) (length ts) then gathered scope es ts else Err (broken Callee (gathered scope es ts))
+    if nat_eq (length es) (length ts) then gathered scope es ts else Err (broken (only Callee) (gathered scope es ts))
 
 -- ---- where calls stand
 
@@ -124,26 +124,26 @@ arguments scope es ts =
 unfoldable pub size_form : Scope → Expression → Checked ℕ
 size_form scope (Size name) = named scope name
 size_form scope (Paren e) = size_form scope e
-size_form scope _ = Err BuiltIn
+size_form scope _ = Err (only BuiltIn)
 
 abbrev pub elem_of : Scope → Option Expression → Checked (Option ℕ)
-elem_of scope None = Err BuiltIn
+elem_of scope None = Err (only BuiltIn)
 elem_of scope (Some e) = then_do (size_form scope e) (λ t. Ok (Some t))
 
 -- an allocation stands as a right side, and its size is a `sizeof` form
 unfoldable pub elem_in : Scope → Position → List Expression → ℕ → Checked (Option ℕ)
 elem_in scope RightSide es k = elem_of scope (slice_get es k)
-elem_in scope _ es k = Err BuiltIn
+elem_in scope _ es k = Err (only BuiltIn)
 
 unfoldable pub as_statement : Position → Checked (Option ℕ)
 as_statement Statement = Ok None
-as_statement _ = Err BuiltIn
+as_statement _ = Err (only BuiltIn)
 
 -- a call whose result is void is a statement
 unfoldable pub not_void : Position → Option ℕ → Checked (Option ℕ)
 not_void Statement t = Ok None
 not_void _ (Some t) = Ok None
-not_void _ None = Err VoidResult
+not_void _ None = Err (only VoidResult)
 
 -- whether a call may stand there, with the type of the elements that it allocates, if any
 unfoldable pub stands : Scope → Position → Called → List Expression → Checked (Option ℕ)
@@ -184,14 +184,14 @@ invoked scope at site (Err r) es = Err (broken r (gathered scope es []))
 invoked scope at site (Ok c) es =
     then_do (both (arguments scope es (params_of scope.types c)) (stands scope at c es)) (λ x. Ok (made_call scope.types c site x.1 x.0))
 
--- a call in a position, or the broken rule of the least code
+-- a call in a position, or the rules that it breaks
 unfoldable pub call : Scope → Position → ℕ → Expression → List Expression → Checked Invocation
 call scope at site callee es = invoked scope at site (callee_of scope.types (denoted scope callee)) es
 
 abbrev pub given_call : Parts → ℕ → Invocation → Option ℕ → Checked Invocation
-given_call p t made None = Err VoidResult
+given_call p t made None = Err (only VoidResult)
 given_call p t made (Some answer) =
-    if converts (record { ty = type_at p answer; is_null = false }) (type_at p t) then Ok made else Err Conversion
+    if converts (record { ty = type_at p answer; is_null = false }) (type_at p t) then Ok made else Err (only Conversion)
 
 -- a call as a right side or return value, whose result converts to a type
 unfoldable pub call_value : Parts → ℕ → Invocation → Checked Invocation

@@ -15,7 +15,7 @@ use Rattle.c_judge.specs.Operations.{int_type}
 use Rattle.c_check_expr.specs.declared.denoted.Denoted.{Denoted}
 use Rattle.c_check_expr.specs.declared.denoted.Denoted.TheVariants as D
 use Rattle.c_check_scope.specs.declared.rule.Rule.TheVariants.{NoAddress, BuiltIn}
-use Rattle.c_check_scope.specs.Rules.{Checked}
+use Rattle.c_check_scope.specs.Rules.{Checked, only}
 
 abbrev pub ty_in : Option Ty → Ty
 ty_in None = int_type
@@ -35,7 +35,7 @@ value ty kind = record { ty = ty; kind = kind }
 abbrev pub loaded_as : Parts → TypedPlace → Bool → Option ℕ → Checked TypedExpr
 loaded_as p q inside None = Ok (value q.ty (E.Load q))
 loaded_as p q inside (Some t) =
-    if inside then Err NoAddress else Ok (value (number p (T.Pointer t)) (E.Decay q))
+    if inside then Err (only NoAddress) else Ok (value (number p (T.Pointer t)) (E.Decay q))
 
 -- what stands at a place, or of an array the address of its element 0, which isn't taken inside a union
 unfoldable pub loaded : Parts → TypedPlace → Bool → Checked TypedExpr
@@ -46,7 +46,7 @@ unfoldable pub value_of : Parts → Denoted → Checked TypedExpr
 value_of p D.Null = Ok (value (number p int_type) (E.Number (pos 0)))
 value_of p (D.Local k t) = Ok (value t (E.Local k))
 value_of p (D.Function f g) = Ok (value (number p (T.Function g)) (E.Function f))
-value_of p (D.BuiltIn which) = Err BuiltIn
+value_of p (D.BuiltIn which) = Err (only BuiltIn)
 value_of p (D.Place q inside) = loaded p q inside
 value_of p (D.Value e) = Ok e
 

@@ -23,9 +23,8 @@ use Rattle.c_check_expr.specs.declared.places.Base.TheVariants as B
 use Rattle.c_check_scope.specs.declared.scope.Scope.{Scope}
 use Rattle.c_check_scope.specs.declared.scope.Meaning.{Meaning}
 use Rattle.c_check_scope.specs.declared.scope.Meaning.TheVariants.{Global, Local}
-use Rattle.c_check_scope.specs.declared.rule.Rule.{Rule}
 use Rattle.c_check_scope.specs.declared.rule.Rule.TheVariants.{NotPlace, NoAddress, NoField, NoPointer, Operands}
-use Rattle.c_check_scope.specs.Rules.{Checked, both, least, or_rule}
+use Rattle.c_check_scope.specs.Rules.{Rules, Checked, both, or_rule, only, union}
 use Rattle.c_check_scope.specs.Names.{Text, meaning_of, part_named}
 use Rattle.c_check_expr.specs.Denoted.{type_at, number, value, value_of, valued, converted}
 
@@ -54,7 +53,7 @@ based p (Ok (D.Place q inside)) = place_base p q inside (element_of (type_at p q
 based p base = pointer_base p (valued p base)
 
 abbrev pub index_in : Parts → TypedExpr → Option IntKind → Checked TypedExpr
-index_in p e None = Err Operands
+index_in p e None = Err (only Operands)
 index_in p e (Some kind) = Ok (converted (number p long_type) e)
 
 -- an index is an integer, as a long long
@@ -82,16 +81,16 @@ part_within scope q inside x =
     or_rule NoField (option_map (part_place q inside) (part_named scope (type_at scope.types q.ty) x))
 
 -- what is no place has no part
-unfoldable pub no_part : Checked TypedExpr → Rule
+unfoldable pub no_part : Checked TypedExpr → Rules
 no_part (Err r) = r
-no_part (Ok e) = NoField
+no_part (Ok e) = only NoField
 
 unfoldable pub part : Scope → Checked Denoted → Text → Checked Denoted
 part scope (Ok (D.Place q inside)) x = part_within scope q inside x
 part scope base x = Err (no_part (valued scope.types base))
 
 abbrev pub arrow_to : Scope → TypedExpr → Text → Option ℕ → Checked Denoted
-arrow_to scope e x None = Err NoField
+arrow_to scope e x None = Err (only NoField)
 arrow_to scope e x (Some t) = part_within scope (place t (P.Arrow e)) false x
 
 unfoldable pub arrow : Scope → Checked Denoted → Text → Checked Denoted
@@ -127,19 +126,19 @@ has_form scope (Op op a b) = false
 has_form scope (Cond c a b) = false
 
 abbrev pub address_in : Parts → TypedPlace → Bool → Option ℕ → Checked Denoted
-address_in p q inside (Some t) = Err NotPlace
+address_in p q inside (Some t) = Err (only NotPlace)
 address_in p q inside None =
-    if inside then Err NoAddress else Ok (D.Value (value (number p (T.Pointer q.ty)) (E.AddressOf q)))
+    if inside then Err (only NoAddress) else Ok (D.Value (value (number p (T.Pointer q.ty)) (E.AddressOf q)))
 
 -- the address of a place other than an array, a local, and a place inside a union
 unfoldable pub address_of : Parts → Denoted → Checked Denoted
 address_of p (D.Place q inside) = address_in p q inside (element_of (type_at p q.ty))
-address_of p (D.Local k t) = Err NoAddress
-address_of p _ = Err NotPlace
+address_of p (D.Local k t) = Err (only NoAddress)
+address_of p _ = Err (only NotPlace)
 
 -- what breaks a rule where a place should stand breaks one more unless it has the form of a place
-unfoldable pub unplaced : Bool → Rule → Rule
-unplaced form r = if form then r else least r NotPlace
+unfoldable pub unplaced : Bool → Rules → Rules
+unplaced form r = if form then r else union r (only NotPlace)
 
 unfoldable pub addressed : Parts → Bool → Checked Denoted → Checked Denoted
 addressed p form (Err r) = Err (unplaced form r)

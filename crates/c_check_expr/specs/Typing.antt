@@ -28,15 +28,12 @@ use Rattle.src_model.specs.declared.expr.PlaceKind as P
 use Rattle.c_judge.specs.Operations.{int_type}
 use Rattle.c_check_expr.specs.declared.denoted.Denoted.{Denoted}
 use Rattle.c_check_expr.specs.declared.denoted.Denoted.TheVariants as D
-use Rattle.c_check_expr.specs.declared.error.ExprError.{ExprError}
-use Rattle.c_check_expr.specs.declared.error.ExprError.TheVariants as X
 use Rattle.c_check_scope.specs.declared.scope.Scope.{Scope}
 use Rattle.c_check_scope.specs.declared.scope.Meaning.{Meaning}
 use Rattle.c_check_scope.specs.declared.scope.Meaning.TheVariants as S
 use Rattle.c_check_scope.specs.declared.scope.Tag.{Tag}
-use Rattle.c_check_scope.specs.declared.rule.Rule.{Rule}
 use Rattle.c_check_scope.specs.declared.rule.Rule.TheVariants.{UnknownTag, VoidValue, Undeclared}
-use Rattle.c_check_scope.specs.Rules.{Checked}
+use Rattle.c_check_scope.specs.Rules.{Checked, only}
 use Rattle.c_check_scope.specs.Names.{Text, meaning_of, tag_of}
 use Rattle.c_check_expr.specs.Denoted.{number as type_number, value, valued}
 use Rattle.c_check_expr.specs.Places.{placed, element, part, arrow, dereferenced, has_form, addressed}
@@ -63,7 +60,7 @@ unfoldable pub character : Parts → ℕ → Denoted
 character p c = D.Value (value (type_number p int_type) (E.Number (pos c)))
 
 unfoldable pub variable : Option Meaning → Checked Denoted
-variable None = Err Undeclared
+variable None = Err (only Undeclared)
 variable (Some (S.Global g t)) = Ok (placed t (P.Global g) false)
 variable (Some (S.Local k t)) = Ok (D.Local k t)
 variable (Some (S.Function f g)) = Ok (D.Function f g)
@@ -89,15 +86,15 @@ tag_type Union n = T.Union n
 
 -- a tag is one of that kind, and by value it is declared earlier
 abbrev pub tag_found : Bool → TagKind → Option Tag → Checked Ty
-tag_found by_value kind None = Err UnknownTag
+tag_found by_value kind None = Err (only UnknownTag)
 tag_found by_value kind (Some tag) =
-    if not (same_tag_kind tag.kind kind) || by_value && not tag.is_declared then Err UnknownTag else Ok (tag_type kind tag.number)
+    if not (same_tag_kind tag.kind kind) || by_value && not tag.is_declared then Err (only UnknownTag) else Ok (tag_type kind tag.number)
 
 unfoldable pub tagged : Scope → Bool → TagKind → Text → Checked Ty
 tagged scope by_value kind x = tag_found by_value kind (tag_of scope x)
 
 unfoldable pub base_named : Scope → Bool → BaseType → Checked Ty
-base_named scope by_value B.Void = Err VoidValue
+base_named scope by_value B.Void = Err (only VoidValue)
 base_named scope by_value B.Char = Ok (T.Int K.Char)
 base_named scope by_value B.Short = Ok (T.Int K.Short)
 base_named scope by_value B.Int = Ok (T.Int K.Int)
@@ -115,7 +112,7 @@ starred p stars base = then_do base (λ ty. Ok (pointers p stars (type_number p 
 
 -- the number of the type of a name; `void` stands only under a star
 abbrev pub base_starred : Scope → BaseType → ℕ → Checked ℕ
-base_starred scope B.Void zero = Err VoidValue
+base_starred scope B.Void zero = Err (only VoidValue)
 base_starred scope B.Void (suc stars) = starred scope.types stars (Ok T.VoidPointer)
 base_starred scope base stars = starred scope.types stars (base_named scope (nat_eq stars 0) base)
 
@@ -138,7 +135,7 @@ unfoldable pub accessed : Scope → Checked Denoted → Access → Text → Chec
 accessed scope base Dot x = part scope base x
 accessed scope base Arrow x = arrow scope base x
 
--- what an expression denotes, or the broken rule of the least code
+-- what an expression denotes, or the rules that it breaks
 unfoldable pub denoted : Scope → Expression → Checked Denoted
 denoted scope (Num n) = Ok (number scope.types n)
 denoted scope (Char c) = Ok (character scope.types c)
@@ -155,8 +152,3 @@ denoted scope (Cond c a b) = conditional scope.types (denoted scope c) (denoted 
 -- the expression as a value with its type
 abbrev pub typed : Scope → Expression → Checked TypedExpr
 typed scope e = valued scope.types (denoted scope e)
-
--- the rule that an error names
-abbrev pub rule_of : ExprError → Option Rule
-rule_of (X.Rule r) = Some r
-rule_of X.Memory = None

@@ -13,7 +13,7 @@ use Rattle.c_check_expr.specs.declared.uses.Assigned.{Assigned}
 use Rattle.c_check_expr.specs.declared.uses.Assigned.TheVariants as A
 use Rattle.c_check_scope.specs.declared.scope.Scope.{Scope}
 use Rattle.c_check_scope.specs.declared.rule.Rule.TheVariants.{NotPlace, Conversion, InsideUnion}
-use Rattle.c_check_scope.specs.Rules.{Checked}
+use Rattle.c_check_scope.specs.Rules.{Checked, only}
 use Rattle.c_check_expr.specs.Denoted.{type_at, valued, converted, operand, is_null}
 use Rattle.c_check_expr.specs.Places.{has_form, unplaced}
 use Rattle.c_check_expr.specs.Operations.{scalar}
@@ -30,7 +30,7 @@ lies_inside p _ = false
 
 unfoldable pub given : Parts → ℕ → Bool → Bool → TypedExpr → Checked TypedExpr
 given p t null inside e =
-    if converts (operand p e null) (type_at p t) then (if inside then Err InsideUnion else Ok (converted t e)) else Err Conversion
+    if converts (operand p e null) (type_at p t) then (if inside then Err (only InsideUnion) else Ok (converted t e)) else Err (only Conversion)
 
 -- what is denoted, converted to a type as a right side, argument or return value
 unfoldable pub right_value : Parts → ℕ → Checked Denoted → Checked TypedExpr
@@ -40,14 +40,14 @@ unfoldable pub right_side : Scope → ℕ → Expression → Checked TypedExpr
 right_side scope t e = right_value scope.types t (denoted scope e)
 
 abbrev pub target_in : TypedPlace → Option ℕ → Checked Assigned
-target_in q (Some t) = Err NotPlace
+target_in q (Some t) = Err (only NotPlace)
 target_in q None = Ok (A.Place q)
 
 unfoldable pub targeted : Parts → Bool → Checked Denoted → Checked Assigned
 targeted p form (Err r) = Err (unplaced form r)
 targeted p form (Ok (D.Local k t)) = Ok (A.Local k t)
 targeted p form (Ok (D.Place q inside)) = target_in q (element_of (type_at p q.ty))
-targeted p form (Ok _) = Err NotPlace
+targeted p form (Ok _) = Err (only NotPlace)
 
 -- the left side of an assignment: a local, or a place other than an array
 unfoldable pub left_side : Scope → Expression → Checked Assigned

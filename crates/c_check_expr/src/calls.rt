@@ -12,6 +12,7 @@ use crate::values::{type_at, valued};
 use c_ast::expr::Expr;
 use c_check_scope::checked::{Checked, both, broken};
 use c_check_scope::rule::Rule;
+use c_check_scope::rules::Rules;
 use c_check_scope::scope::{BuiltIn, Scope};
 use c_judge::conversions::converts;
 use c_judge::kinds::signature_of;
@@ -60,7 +61,7 @@ fn pointer_callee(types: &Types, e: Boxed<TypedExpr>) -> Checked<Called>
     ensures { result ≡ pointer_callee types.now e }
 {
     match signature_of(type_at(types, e.get().ty)) {
-        None => Err(Rule::Callee),
+        None => Err(Rules::only(Rule::Callee)),
         Some(signature) => Ok(Called::Pointer(e, signature)),
     }
 }
@@ -78,7 +79,7 @@ fn callee_of(
         Ok(Denoted::Function(number, signature)) => Ok(Ok(Called::Function(number, signature))),
         Ok(Denoted::BuiltIn(which)) => Ok(Ok(Called::BuiltIn(which))),
         other => match valued(alloc, types, other)? {
-            Err(rule) => Ok(Err(rule)),
+            Err(rules) => Ok(Err(rules)),
             Ok(e) => Ok(pointer_callee(types, e)),
         },
     }
@@ -151,7 +152,7 @@ fn more(
     ensures { IfOk result (λ l. l ≡ more list e) }
 {
     match both(list, e) {
-        Err(rule) => Ok(Err(rule)),
+        Err(rules) => Ok(Err(rules)),
         Ok((mut list, e)) => {
             list.push(e.into_inner())?;
             Ok(Ok(list))
@@ -203,7 +204,7 @@ fn argument_at(
     ensures { IfOk result (λ a. a ≡ argument_at scope.now (slice_get params.now index) (slice_get (expressions args.now) index)) }
 {
     match expr_at(args, index) {
-        None => Ok(Err(Rule::Callee)),
+        None => Ok(Err(Rules::only(Rule::Callee))),
         Some(e) => argument(alloc, scope, param_at(params, index), e),
     }
 }
@@ -239,7 +240,7 @@ fn arguments(
     if args.len() == params.len() {
         Ok(list)
     } else {
-        Ok(Err(broken(Rule::Callee, list)))
+        Ok(Err(broken(Rules::only(Rule::Callee), list)))
     }
 }
 
@@ -258,7 +259,7 @@ fn size_form(scope: &Scope, e: &Expr) -> Checked<TyId>
         | Expr::Unary(_, _)
         | Expr::Cast(_, _)
         | Expr::Binary(_, _, _)
-        | Expr::Conditional(_, _, _) => Err(Rule::BuiltIn),
+        | Expr::Conditional(_, _, _) => Err(Rules::only(Rule::BuiltIn)),
     }
 }
 
@@ -266,9 +267,9 @@ fn size_at(scope: &Scope, args: &[Expr], index: usize) -> Checked<Option<TyId>>
     ensures { result ≡ elem_of scope.now (slice_get (expressions args.now) index) }
 {
     match expr_at(args, index) {
-        None => Err(Rule::BuiltIn),
+        None => Err(Rules::only(Rule::BuiltIn)),
         Some(e) => match size_form(scope, e) {
-            Err(rule) => Err(rule),
+            Err(rules) => Err(rules),
             Ok(ty) => Ok(Some(ty)),
         },
     }
@@ -280,7 +281,7 @@ fn elem_in(scope: &Scope, position: Position, args: &[Expr], index: usize) -> Ch
 {
     match position {
         Position::RightSide => size_at(scope, args, index),
-        Position::Statement | Position::Return => Err(Rule::BuiltIn),
+        Position::Statement | Position::Return => Err(Rules::only(Rule::BuiltIn)),
     }
 }
 
@@ -290,7 +291,7 @@ fn as_statement(position: Position) -> Checked<Option<TyId>>
 {
     match position {
         Position::Statement => Ok(None),
-        Position::RightSide | Position::Return => Err(Rule::BuiltIn),
+        Position::RightSide | Position::Return => Err(Rules::only(Rule::BuiltIn)),
     }
 }
 
@@ -302,7 +303,7 @@ fn not_void(position: Position, answer: Option<TyId>) -> Checked<Option<TyId>>
         Position::Statement => Ok(None),
         Position::RightSide | Position::Return => match answer {
             Some(_) => Ok(None),
-            None => Err(Rule::VoidResult),
+            None => Err(Rules::only(Rule::VoidResult)),
         },
     }
 }
@@ -378,7 +379,7 @@ fn made_call(
     Invocation { call, answer, elem }
 }
 
-/// A call in a position, or the broken rule of the least code. An allocation is at the site of the number `site`.
+/// A call in a position, or the rules that it breaks. An allocation is at the site of the number `site`.
 #[tactic(auto, unfolding(crate::specs::Calls::call))]
 pub fn call(
     alloc: Global,
@@ -392,13 +393,13 @@ pub fn call(
 {
     let callee = denoted(alloc, scope, callee)?;
     match callee_of(alloc, &scope.types, callee)? {
-        Err(rule) => Ok(Err(broken(rule, gathered(alloc, scope, &[], args)?))),
+        Err(rules) => Ok(Err(broken(rules, gathered(alloc, scope, &[], args)?))),
         Ok(called) => {
             let params = params_of(alloc, &scope.types, &called)?;
             let list = arguments(alloc, scope, params.as_slice(), args)?;
             let elem = stands(scope, position, &called, args);
             match both(list, elem) {
-                Err(rule) => Ok(Err(rule)),
+                Err(rules) => Ok(Err(rules)),
                 Ok((list, elem)) => Ok(Ok(made_call(&scope.types, called, site, elem, list))),
             }
         }
@@ -411,7 +412,7 @@ pub fn call_value(types: &Types, ty: TyId, made: Invocation) -> Checked<Invocati
     ensures { result ≡ call_value types.now ty made }
 {
     match made.answer {
-        None => Err(Rule::VoidResult),
+        None => Err(Rules::only(Rule::VoidResult)),
         Some(answer) => {
             let from = Operand {
                 ty: type_at(types, answer),
@@ -420,7 +421,7 @@ pub fn call_value(types: &Types, ty: TyId, made: Invocation) -> Checked<Invocati
             if converts(from, type_at(types, ty)) {
                 Ok(made)
             } else {
-                Err(Rule::Conversion)
+                Err(Rules::only(Rule::Conversion))
             }
         }
     }

@@ -1,10 +1,8 @@
-//! The typing of expressions of the C subset in a scope: what an expression denotes, or the least code of the rules
-//! that it breaks.
+//! The typing of expressions of the C subset in a scope: what an expression denotes, or the rules that it breaks.
 #![tactic(auto)]
 
 pub mod calls;
 pub mod denoted;
-pub mod error;
 pub mod operators;
 pub mod places;
 pub mod typing;

@@ -8,6 +8,7 @@ use crate::values::{converted, node, operand, type_at, valued};
 use c_ast::expr::BinaryOperator;
 use c_check_scope::checked::{Checked, both};
 use c_check_scope::rule::Rule;
+use c_check_scope::rules::Rules;
 use c_judge::conversions::casts;
 use c_judge::kinds::is_scalar;
 use c_judge::operand::{joined, promoted_type};
@@ -37,9 +38,9 @@ pub fn promotion(
     ensures { IfOk result (λ d. d ≡ promotion types.now operator e) }
 {
     match valued(alloc, types, e)? {
-        Err(rule) => Ok(Err(rule)),
+        Err(rules) => Ok(Err(rules)),
         Ok(e) => match promoted_type(type_at(types, e.get().ty)) {
-            None => Ok(Err(Rule::Operands)),
+            None => Ok(Err(Rules::only(Rule::Operands))),
             Some(ty) => {
                 let ty = types.number_of(ty);
                 let e = converted(alloc, ty, e)?;
@@ -59,13 +60,13 @@ pub fn inverted(
     ensures { IfOk result (λ d. d ≡ inverted types.now e) }
 {
     match valued(alloc, types, e)? {
-        Err(rule) => Ok(Err(rule)),
+        Err(rules) => Ok(Err(rules)),
         Ok(e) => {
             if is_scalar(type_at(types, e.get().ty)) {
                 let kind = ExprKind::Unary(UnaryOperator::Not, e);
                 Ok(Ok(Denoted::Value(node(alloc, types.number_of(INT), kind)?)))
             } else {
-                Ok(Err(Rule::Operands))
+                Ok(Err(Rules::only(Rule::Operands)))
             }
         }
     }
@@ -101,7 +102,7 @@ fn operation_node(
     ensures { IfOk result (λ d. d ≡ operation_node types.now operation a b) }
 {
     match operation {
-        None => Ok(Err(Rule::Operands)),
+        None => Ok(Err(Rules::only(Rule::Operands))),
         Some(operation) => Ok(Ok(Denoted::Value(work(alloc, types, operation, a, b)?))),
     }
 }
@@ -122,7 +123,7 @@ pub fn operated(
     let a = valued(alloc, types, a)?;
     let b = valued(alloc, types, b)?;
     match both(a, b) {
-        Err(rule) => Ok(Err(rule)),
+        Err(rules) => Ok(Err(rules)),
         Ok((a, b)) => {
             let left = operand(types, a.get(), left_null);
             let right = operand(types, b.get(), right_null);
@@ -143,12 +144,12 @@ pub fn cast(
 {
     let e = valued(alloc, types, e)?;
     match both(ty, e) {
-        Err(rule) => Ok(Err(rule)),
+        Err(rules) => Ok(Err(rules)),
         Ok((ty, e)) => {
             if casts(type_at(types, e.get().ty), type_at(types, ty)) {
                 Ok(Ok(Denoted::Value(node(alloc, ty, ExprKind::Cast(e))?)))
             } else {
-                Ok(Err(Rule::Cast))
+                Ok(Err(Rules::only(Rule::Cast)))
             }
         }
     }
@@ -160,12 +161,12 @@ pub fn scalar(types: &Types, e: Checked<Boxed<TypedExpr>>) -> Checked<Boxed<Type
     ensures { result ≡ scalar types.now e }
 {
     match e {
-        Err(rule) => Err(rule),
+        Err(rules) => Err(rules),
         Ok(e) => {
             if is_scalar(type_at(types, e.get().ty)) {
                 Ok(e)
             } else {
-                Err(Rule::Condition)
+                Err(Rules::only(Rule::Condition))
             }
         }
     }
@@ -185,12 +186,12 @@ fn meet(
     let a = valued(alloc, types, a)?;
     let b = valued(alloc, types, b)?;
     match both(a, b) {
-        Err(rule) => Ok(Err(rule)),
+        Err(rules) => Ok(Err(rules)),
         Ok((a, b)) => {
             let left = operand(types, a.get(), left_null);
             let right = operand(types, b.get(), right_null);
             match joined(left, right) {
-                None => Ok(Err(Rule::Operands)),
+                None => Ok(Err(Rules::only(Rule::Operands))),
                 Some(ty) => {
                     let ty = types.number_of(ty);
                     let yes = converted(alloc, ty, a)?;
@@ -216,7 +217,7 @@ pub fn conditional(
     let c = scalar(types, valued(alloc, types, c)?);
     let branches = meet(alloc, types, a, b)?;
     match both(c, branches) {
-        Err(rule) => Ok(Err(rule)),
+        Err(rules) => Ok(Err(rules)),
         Ok((c, Branches { ty, yes, no })) => Ok(Ok(Denoted::Value(node(
             alloc,
             ty,

@@ -10,7 +10,8 @@ use crate::denoted::Denoted;
 use crate::values::{converted, node, type_at, value_of, valued};
 use c_ast::expr::{Expr, UnaryOperator};
 use c_check_scope::checked::{Checked, both};
-use c_check_scope::rule::{Rule, least};
+use c_check_scope::rule::Rule;
+use c_check_scope::rules::Rules;
 use c_check_scope::scope::{Meaning, Scope};
 use c_judge::kinds::{self, element_of, kind_of};
 use c_judge::members::Part;
@@ -49,9 +50,9 @@ fn pointer_base(types: &Types, e: Checked<Boxed<TypedExpr>>) -> Checked<Base>
     ensures { result ≡ Rattle.c_check_expr.specs.Places.pointer_base types.now e }
 {
     match e {
-        Err(rule) => Err(rule),
+        Err(rules) => Err(rules),
         Ok(e) => match target_of(types, e.get()) {
-            None => Err(Rule::NoPointer),
+            None => Err(Rules::only(Rule::NoPointer)),
             Some(ty) => Ok(Base::Pointer(e, ty)),
         },
     }
@@ -96,9 +97,9 @@ fn index_of(
     ensures { IfOk result (λ i. i ≡ index_of types.now index) }
 {
     match index {
-        Err(rule) => Ok(Err(rule)),
+        Err(rules) => Ok(Err(rules)),
         Ok(e) => match kind_of(type_at(types, e.get().ty)) {
-            None => Ok(Err(Rule::Operands)),
+            None => Ok(Err(Rules::only(Rule::Operands))),
             Some(_) => Ok(Ok(converted(alloc, types.number_of(LONG_LONG), e)?)),
         },
     }
@@ -130,7 +131,7 @@ pub fn element(
     let index = valued(alloc, types, index)?;
     let index = index_of(alloc, types, index)?;
     match both(base, index) {
-        Err(rule) => Ok(Err(rule)),
+        Err(rules) => Ok(Err(rules)),
         Ok((base, index)) => Ok(Ok(item(alloc, base, index)?)),
     }
 }
@@ -162,18 +163,18 @@ fn part_within(
     ensures { IfOk result (λ d. d ≡ part_within scope.now base inside name.now) }
 {
     match scope.part_named(type_at(&scope.types, base.get().ty), name) {
-        None => Ok(Err(Rule::NoField)),
+        None => Ok(Err(Rules::only(Rule::NoField))),
         Some(part) => Ok(Ok(part_place(alloc, base, inside, part)?)),
     }
 }
 
 #[tactic(auto, unfolding(crate::specs::Places::no_part))]
-fn no_part(e: Checked<Boxed<TypedExpr>>) -> Rule
+fn no_part(e: Checked<Boxed<TypedExpr>>) -> Rules
     ensures { result ≡ Rattle.c_check_expr.specs.Places.no_part e }
 {
     match e {
-        Err(rule) => rule,
-        Ok(_) => Rule::NoField,
+        Err(rules) => rules,
+        Ok(_) => Rules::only(Rule::NoField),
     }
 }
 
@@ -207,9 +208,9 @@ pub fn arrow(
     ensures { IfOk result (λ d. d ≡ arrow scope.now base name.now) }
 {
     match valued(alloc, &scope.types, base)? {
-        Err(rule) => Ok(Err(rule)),
+        Err(rules) => Ok(Err(rules)),
         Ok(e) => match target_of(&scope.types, e.get()) {
-            None => Ok(Err(Rule::NoField)),
+            None => Ok(Err(Rules::only(Rule::NoField))),
             Some(ty) => {
                 let kind = PlaceKind::Arrow(e);
                 let base = Boxed::new(alloc, TypedPlace { ty, kind })?;
@@ -229,9 +230,9 @@ pub fn dereferenced(
     ensures { IfOk result (λ d. d ≡ dereferenced types.now e) }
 {
     match valued(alloc, types, e)? {
-        Err(rule) => Ok(Err(rule)),
+        Err(rules) => Ok(Err(rules)),
         Ok(e) => match target_of(types, e.get()) {
-            None => Ok(Err(Rule::NoPointer)),
+            None => Ok(Err(Rules::only(Rule::NoPointer))),
             Some(ty) => Ok(Ok(place(alloc, ty, PlaceKind::Deref(e), false)?)),
         },
     }
@@ -286,10 +287,10 @@ fn place_address(
 {
     let number = place.get().ty;
     match element_of(type_at(types, number)) {
-        Some(_) => Ok(Err(Rule::NotPlace)),
+        Some(_) => Ok(Err(Rules::only(Rule::NotPlace))),
         None => {
             if inside {
-                return Ok(Err(Rule::NoAddress));
+                return Ok(Err(Rules::only(Rule::NoAddress)));
             }
             let ty = types.number_of(Ty::Pointer(number));
             let e = node(alloc, ty, ExprKind::AddressOf(place))?;
@@ -308,20 +309,20 @@ fn address_of(
 {
     match denoted {
         Denoted::Place(place, inside) => place_address(alloc, types, place, inside),
-        Denoted::Local(_, _) => Ok(Err(Rule::NoAddress)),
-        _ => Ok(Err(Rule::NotPlace)),
+        Denoted::Local(_, _) => Ok(Err(Rules::only(Rule::NoAddress))),
+        _ => Ok(Err(Rules::only(Rule::NotPlace))),
     }
 }
 
-/// The broken rule of an expression that is to be a place, and breaks a rule.
+/// The broken rules of an expression that is to be a place, and breaks rules.
 #[tactic(auto, unfolding(crate::specs::Places::unplaced))]
-pub fn unplaced(has_form: bool, rule: Rule) -> Rule
-    ensures { result ≡ Rattle.c_check_expr.specs.Places.unplaced has_form rule }
+pub fn unplaced(has_form: bool, rules: Rules) -> Rules
+    ensures { result ≡ Rattle.c_check_expr.specs.Places.unplaced has_form rules }
 {
     if has_form {
-        rule
+        rules
     } else {
-        least(rule, Rule::NotPlace)
+        Rules::union(rules, Rules::only(Rule::NotPlace))
     }
 }
 
@@ -336,7 +337,7 @@ pub fn addressed(
     ensures { IfOk result (λ d. d ≡ addressed types.now has_form e) }
 {
     match e {
-        Err(rule) => Ok(Err(unplaced(has_form, rule))),
+        Err(rules) => Ok(Err(unplaced(has_form, rules))),
         Ok(denoted) => address_of(alloc, types, denoted),
     }
 }

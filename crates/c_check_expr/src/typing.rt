@@ -2,19 +2,18 @@
 
 ghost use Rattle.std.specs.Prelude.{◌≡◌, IfOk};
 ghost use Rattle.c_ast.specs.Trees.{expression};
-ghost use Rattle.lu_spec.specs.Answer.{Answers};
-ghost use Rattle.c_check_expr.specs.Typing.{number_kind, number, variable, unsigned_kind, base_named, pointers, starred, named, sized, prefixed, denoted, typed, rule_of};
+ghost use Rattle.c_check_expr.specs.Typing.{number_kind, number, variable, unsigned_kind, base_named, pointers, starred, named, sized, prefixed, denoted};
 
 use crate::denoted::Denoted;
-use crate::error::ExprError;
 use crate::operators::{cast, conditional, inverted, operated, promotion};
 use crate::places::{addressed, arrow, dereferenced, element, has_form, part};
-use crate::values::{node, valued};
+use crate::values::node;
 use c_ast::expr::{Access, Expr, UnaryOperator};
 use c_ast::token::{Number, NumberKind};
 use c_ast::types::{BaseType, TagKind, TypeName, UnsignedType};
 use c_check_scope::checked::Checked;
 use c_check_scope::rule::Rule;
+use c_check_scope::rules::Rules;
 use c_check_scope::scope::{Meaning, Scope};
 use c_judge::operation::INT;
 use c_judge::types::Types;
@@ -61,7 +60,7 @@ fn variable(alloc: Global, meaning: Option<Meaning>) -> Result<Checked<Denoted>,
     ensures { IfOk result (λ d. d ≡ variable meaning) }
 {
     match meaning {
-        None => Ok(Err(Rule::Undeclared)),
+        None => Ok(Err(Rules::only(Rule::Undeclared))),
         Some(Meaning::Global(number, ty)) => {
             let kind = PlaceKind::Global(number);
             let place = Boxed::new(alloc, TypedPlace { ty, kind })?;
@@ -92,10 +91,10 @@ fn tagged(scope: &Scope, by_value: bool, kind: TagKind, name: &Name) -> Checked<
     ensures { result ≡ Rattle.c_check_expr.specs.Typing.tagged scope.now by_value kind name.now }
 {
     match scope.tag_of(name) {
-        None => Err(Rule::UnknownTag),
+        None => Err(Rules::only(Rule::UnknownTag)),
         Some(tag) => {
             if tag.kind != kind || by_value && !tag.is_declared {
-                return Err(Rule::UnknownTag);
+                return Err(Rules::only(Rule::UnknownTag));
             }
             match kind {
                 TagKind::Struct => Ok(Ty::Struct(tag.number)),
@@ -110,7 +109,7 @@ fn base_named(scope: &Scope, by_value: bool, base: &BaseType) -> Checked<Ty>
     ensures { result ≡ base_named scope.now by_value base.now }
 {
     match base {
-        BaseType::Void => Err(Rule::VoidValue),
+        BaseType::Void => Err(Rules::only(Rule::VoidValue)),
         BaseType::Char => Ok(Ty::Int(IntKind::Char)),
         BaseType::Short => Ok(Ty::Int(IntKind::Short)),
         BaseType::Int => Ok(Ty::Int(IntKind::Int)),
@@ -136,7 +135,7 @@ fn starred(types: &Types, stars: u8, base: Checked<Ty>) -> Checked<TyId>
     ensures { result ≡ starred types.now stars base }
 {
     match base {
-        Err(rule) => Err(rule),
+        Err(rules) => Err(rules),
         Ok(ty) => Ok(pointers(types, stars, types.number_of(ty))),
     }
 }
@@ -148,7 +147,7 @@ pub fn named(scope: &Scope, name: &TypeName) -> Checked<TyId>
 {
     if let BaseType::Void = name.base {
         if name.stars == 0 {
-            return Err(Rule::VoidValue);
+            return Err(Rules::only(Rule::VoidValue));
         }
         return starred(&scope.types, name.stars - 1, Ok(Ty::VoidPointer));
     }
@@ -161,7 +160,7 @@ fn sized(alloc: Global, scope: &Scope, name: &TypeName) -> Result<Checked<Denote
     ensures { IfOk result (λ d. d ≡ sized scope.now name.now) }
 {
     match named(scope, name) {
-        Err(rule) => Ok(Err(rule)),
+        Err(rules) => Ok(Err(rules)),
         Ok(ty) => {
             let unsigned = scope.types.number_of(Ty::Int(IntKind::UInt));
             Ok(Ok(Denoted::Value(node(alloc, unsigned, ExprKind::SizeOf(ty))?)))
@@ -204,7 +203,7 @@ fn accessed(
     }
 }
 
-/// What an expression denotes in a scope, or the broken rule of the least code.
+/// What an expression denotes in a scope, or the rules that it breaks.
 #[tactic(auto, using(c_ast::proofs::Views::views), unfolding(crate::specs::Typing::denoted))]
 pub fn denoted(alloc: Global, scope: &Scope, e: &Expr) -> Result<Checked<Denoted>, AllocError>
     ensures { IfOk result (λ d. d ≡ denoted scope.now (expression e.now)) }
@@ -244,16 +243,5 @@ pub fn denoted(alloc: Global, scope: &Scope, e: &Expr) -> Result<Checked<Denoted
             let b = denoted(alloc, scope, b.get())?;
             conditional(alloc, &scope.types, c, a, b)
         }
-    }
-}
-
-/// The expression as a value with its type, or the broken rule of the least code.
-pub fn type_expr(alloc: Global, scope: &Scope, e: &Expr) -> Result<TypedExpr, ExprError>
-    ensures { Answers rule_of (typed scope.now (expression e.now)) result }
-{
-    let denoted = denoted(alloc, scope, e)?;
-    match valued(alloc, &scope.types, denoted)? {
-        Err(rule) => Err(ExprError::Rule(rule)),
-        Ok(e) => Ok(e.into_inner()),
     }
 }

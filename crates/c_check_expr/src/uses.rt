@@ -12,6 +12,7 @@ use crate::values::{converted, operand, type_at, valued};
 use c_ast::expr::Expr;
 use c_check_scope::checked::Checked;
 use c_check_scope::rule::Rule;
+use c_check_scope::rules::Rules;
 use c_check_scope::scope::Scope;
 use c_judge::conversions::converts;
 use c_judge::kinds::{element_of, is_record};
@@ -67,10 +68,10 @@ fn given(
     ensures { IfOk result (λ v. v ≡ given types.now ty is_null inside e) }
 {
     if !converts(operand(types, e.get(), is_null), type_at(types, ty)) {
-        return Ok(Err(Rule::Conversion));
+        return Ok(Err(Rules::only(Rule::Conversion)));
     }
     if inside {
-        return Ok(Err(Rule::InsideUnion));
+        return Ok(Err(Rules::only(Rule::InsideUnion)));
     }
     Ok(Ok(converted(alloc, ty, e)?))
 }
@@ -88,7 +89,7 @@ pub fn right_value(
     let is_null = is_null(&denoted);
     let inside = lies_inside(types, &denoted);
     match valued(alloc, types, denoted)? {
-        Err(rule) => Ok(Err(rule)),
+        Err(rules) => Ok(Err(rules)),
         Ok(e) => given(alloc, types, ty, is_null, inside, e),
     }
 }
@@ -112,13 +113,13 @@ fn targeted(types: &Types, has_form: bool, denoted: Checked<Denoted>) -> Checked
     ensures { result ≡ targeted types.now has_form denoted }
 {
     match denoted {
-        Err(rule) => Err(unplaced(has_form, rule)),
+        Err(rules) => Err(unplaced(has_form, rules)),
         Ok(Denoted::Local(number, ty)) => Ok(Assigned::Local(number, ty)),
         Ok(Denoted::Place(place, _)) => match element_of(type_at(types, place.get().ty)) {
-            Some(_) => Err(Rule::NotPlace),
+            Some(_) => Err(Rules::only(Rule::NotPlace)),
             None => Ok(Assigned::Place(place)),
         },
-        Ok(_) => Err(Rule::NotPlace),
+        Ok(_) => Err(Rules::only(Rule::NotPlace)),
     }
 }
 

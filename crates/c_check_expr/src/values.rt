@@ -6,6 +6,7 @@ ghost use Rattle.c_check_expr.specs.Denoted.{type_at, value, loaded, value_of, v
 use crate::denoted::Denoted;
 use c_check_scope::checked::Checked;
 use c_check_scope::rule::Rule;
+use c_check_scope::rules::Rules;
 use c_judge::kinds::element_of;
 use c_judge::operand::Operand;
 use c_judge::operation::INT;
@@ -47,7 +48,7 @@ fn loaded(
         None => Ok(Ok(node(alloc, number, ExprKind::Load(place))?)),
         Some(element) => {
             if inside {
-                return Ok(Err(Rule::NoAddress));
+                return Ok(Err(Rules::only(Rule::NoAddress)));
             }
             let ty = types.number_of(Ty::Pointer(element));
             Ok(Ok(node(alloc, ty, ExprKind::Decay(place))?))
@@ -71,7 +72,7 @@ pub fn value_of(
             let ty = types.number_of(Ty::Function(signature));
             Ok(Ok(node(alloc, ty, ExprKind::Function(number))?))
         }
-        Denoted::BuiltIn(_) => Ok(Err(Rule::BuiltIn)),
+        Denoted::BuiltIn(_) => Ok(Err(Rules::only(Rule::BuiltIn))),
         Denoted::Place(place, inside) => loaded(alloc, types, place, inside),
         Denoted::Value(e) => Ok(Ok(e)),
     }
@@ -87,7 +88,7 @@ pub fn valued(
     ensures { IfOk result (λ e. e ≡ valued types.now denoted) }
 {
     match denoted {
-        Err(rule) => Ok(Err(rule)),
+        Err(rules) => Ok(Err(rules)),
         Ok(denoted) => value_of(alloc, types, denoted),
     }
 }

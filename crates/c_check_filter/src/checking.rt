@@ -30,16 +30,17 @@ fn typed(
 }
 
 /// The expression as a value with its type, in the scope of all globals, functions and built-in functions of a
-/// program, or the broken rule of the least code.
+/// program, or the least code of the rules that it breaks.
+#[tactic(auto, using(crate::proofs::Least::least_broken))]
 pub fn check_expr(alloc: Global, program: &Program, e: &Expr) -> Result<TypedExpr, CheckError>
     ensures typed { IfOk result (λ t. typed (scope_of program.now) (expression e.now) ≡ Ok t) }
     ensures refused { IfErr result (Refuses program.now (expression e.now)) }
 {
     match typed(alloc, program, e)? {
         Ok(e) => Ok(e.into_inner()),
-        Err(rule) => Err(CheckError::Rule {
+        Err(rules) => Err(CheckError::Rule {
             decl: 1,
-            code: rule.code(),
+            code: rules.least(),
         }),
     }
 }

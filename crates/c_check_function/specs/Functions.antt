@@ -1,4 +1,4 @@
--- A prototype or definition of a text: what stands after it, or the broken rule of the least code.
+-- A prototype or definition of a text: what stands after it, or the rules that it breaks.
 use Rattle.std.specs.Prelude.{ℕ, ◌+◌, nat_lt, Bool, true, false, List, length, Option, Some, None, Ok, Err, slice_get, if◌then◌else◌}
 use Rattle.lu_spec.specs.Then.{then_do}
 use Rattle.c_types.specs.declared.parts.Signature.{Signature}
@@ -8,7 +8,7 @@ use Rattle.c_check_scope.specs.declared.scope.Scope.{Scope}
 use Rattle.c_check_scope.specs.declared.scope.Meaning.{Meaning}
 use Rattle.c_check_scope.specs.declared.scope.Meaning.TheVariants as M
 use Rattle.c_check_scope.specs.declared.rule.Rule.TheVariants.{NameTaken, TooMany}
-use Rattle.c_check_scope.specs.Rules.{Checked, both}
+use Rattle.c_check_scope.specs.Rules.{Checked, both, only}
 use Rattle.c_check_scope.specs.Names.{global_of}
 use Rattle.c_check_type.specs.Declarators.{signature, signature_number}
 use Rattle.c_check_decl.specs.Records.{name_number}
@@ -62,17 +62,17 @@ abbrev pub declared_prototype : List Declaration → Functions → Standing → 
 declared_prototype text functions s t x ps = prototype_headed text functions s t x (signature s.scope t ps) ps
 
 abbrev pub undefined_as : Bool → ℕ → Checked ℕ
-undefined_as true f = Err NameTaken
+undefined_as true f = Err (only NameTaken)
 undefined_as false f = Ok f
 
 abbrev pub defined_at : Standing → ℕ → Option Bool → Checked ℕ
-defined_at s f None = Err NameTaken
+defined_at s f None = Err (only NameTaken)
 defined_at s f (Some defined) = undefined_as defined f
 
 abbrev pub definable_as : Standing → Option Meaning → Checked ℕ
 definable_as s None = next_of (length s.functions)
 definable_as s (Some (M.Function f g)) = defined_at s f (slice_get s.defined f)
-definable_as s (Some _) = Err NameTaken
+definable_as s (Some _) = Err (only NameTaken)
 
 -- the number of a function that may be defined: one more, or one that has a prototype so far
 unfoldable pub definable : Standing → Text → Checked ℕ
@@ -88,7 +88,7 @@ own_number s x = number_in s (global_of s.scope x)
 
 -- at most 4,096 sites with those of one more function
 unfoldable pub few_sites : ℕ → Checked Body → Checked Body
-few_sites n b = then_do b (λ b. if nat_lt greatest_count (n + length b.sites) then Err TooMany else Ok b)
+few_sites n b = then_do b (λ b. if nat_lt greatest_count (n + length b.sites) then Err (only TooMany) else Ok b)
 
 abbrev pub is_numbered : Standing → ℕ → Bool
 is_numbered s f = nat_lt f (length s.functions)

@@ -13,6 +13,7 @@ use c_check_heading::headings::{GREATEST_COUNT, free_name, is_defined, next_of, 
 use c_check_scope::checked::{Checked, both};
 use c_check_scope::numbers::as_number;
 use c_check_scope::rule::Rule;
+use c_check_scope::rules::Rules;
 use c_check_scope::scope::{Meaning, Scope};
 use c_check_standing::functions::{with_body, with_prototype};
 use c_check_standing::standing::{Functions, Standing, meaning_in};
@@ -119,7 +120,7 @@ fn prototype_made(
     ensures types { IfOk result (λ s. IfOk s (λ s. s.scope.types ≡ behind.scope.types)) }
 {
     match judged {
-        Err(rule) => Ok(Err(rule)),
+        Err(rules) => Ok(Err(rules)),
         Ok(((name, _), (signature, _))) => {
             let made = with_prototype(alloc, behind, name, &signature)?;
             Ok(Ok(made))
@@ -180,7 +181,7 @@ fn prototype_headed(
     prototype_in(alloc, standing, free, defined, entry, heading, params)
 }
 
-/// What stands after a prototype, or the broken rule of the least code.
+/// What stands after a prototype, or the rules that it breaks.
 pub fn declared_prototype(
     alloc: Global,
     text: &[Decl],
@@ -203,10 +204,10 @@ fn defined_at(standing: &Standing, function: u32) -> Checked<u32>
     ensures { result ≡ spec.defined_at standing.now function (slice_get standing.now.defined function) }
 {
     match standing.defined.as_slice().get(function as usize) {
-        None => Err(Rule::NameTaken),
+        None => Err(Rules::only(Rule::NameTaken)),
         Some(defined) => {
             if *defined {
-                Err(Rule::NameTaken)
+                Err(Rules::only(Rule::NameTaken))
             } else {
                 Ok(function)
             }
@@ -222,7 +223,7 @@ fn definable(standing: &Standing, name: &Name) -> Checked<u32>
     match standing.scope.global_of(name) {
         None => next_of(standing.functions.len() as u64),
         Some(Meaning::Function(function, _)) => defined_at(standing, function),
-        Some(_) => Err(Rule::NameTaken),
+        Some(_) => Err(Rules::only(Rule::NameTaken)),
     }
 }
 
@@ -242,10 +243,10 @@ fn few_sites(before: u64, body: Checked<Body>) -> Checked<Body>
     ensures { result ≡ spec.few_sites before body }
 {
     match body {
-        Err(rule) => Err(rule),
+        Err(rules) => Err(rules),
         Ok(body) => {
             if GREATEST_COUNT < before + body.sites.len() as u64 {
-                Err(Rule::TooMany)
+                Err(Rules::only(Rule::TooMany))
             } else {
                 Ok(body)
             }
@@ -303,7 +304,7 @@ fn definition_made(
     ensures types { IfOk result (λ s. IfOk s (λ s. s.scope.types ≡ behind.scope.types)) }
 {
     match judged {
-        Err(rule) => Ok(Err(rule)),
+        Err(rules) => Ok(Err(rules)),
         Ok((function, (signature, body))) => {
             let made = definition(alloc, behind, function, name, &signature, body)?;
             Ok(Ok(made))
@@ -350,7 +351,7 @@ fn definition_headed(
     definition_in(alloc, standing, function, entry, heading, params, text)
 }
 
-/// What stands after the definition of a function, or the broken rule of the least code.
+/// What stands after the definition of a function, or the rules that it breaks.
 pub fn declared_definition(
     alloc: Global,
     standing: Standing,

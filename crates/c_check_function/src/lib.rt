@@ -1,5 +1,4 @@
-//! The prototype or definition of a function after other declarations: what stands behind it, or the broken rule of the least
-//! code.
+//! The prototype or definition of a function after other declarations: what stands behind it, or the rules that it breaks.
 #![tactic(auto)]
 
 pub mod definitions;

@@ -8,7 +8,7 @@ use Rattle.c_ast.specs.Trees.{Text, Declaration, Prototype, Definition}
 use Rattle.c_check_scope.specs.declared.scope.Scope.{Scope}
 use Rattle.c_check_scope.specs.declared.scope.Meaning.{Meaning}
 use Rattle.c_check_scope.specs.declared.rule.Rule.TheVariants.{NameTaken, Undefined, TooMany}
-use Rattle.c_check_scope.specs.Rules.{Checked}
+use Rattle.c_check_scope.specs.Rules.{Checked, only}
 use Rattle.c_check_scope.specs.Names.{flat, number_named, global_of}
 use Rattle.c_check_type.specs.Declarators.{same_signature, signature, signature_number, result_type}
 use Rattle.c_check_decl.specs.Records.{name_number}
@@ -18,7 +18,7 @@ use Rattle.c_check_decl.specs.Records.{name_number}
 -- the number of a name that no global, function or built-in has so far
 abbrev pub free_as : ℕ → Option Meaning → Checked ℕ
 free_as k None = Ok k
-free_as k (Some meaning) = Err NameTaken
+free_as k (Some meaning) = Err (only NameTaken)
 
 unfoldable pub free_name : Scope → Text → Checked ℕ
 free_name scope x = free_as (name_number scope x) (global_of scope x)
@@ -28,7 +28,7 @@ abbrev pub greatest_count : ℕ
 greatest_count = 4096
 
 unfoldable pub next_of : ℕ → Checked ℕ
-next_of n = if nat_lt n greatest_count then Ok n else Err TooMany
+next_of n = if nat_lt n greatest_count then Ok n else Err (only TooMany)
 
 -- ---- headings
 
@@ -53,8 +53,8 @@ agree (Ok g) (Err r) = false
 agree (Err r) _ = true
 
 abbrev pub defined_as : Checked Signature → Option (Checked Signature) → Checked Bool
-defined_as g None = Err Undefined
-defined_as g (Some h) = if agree g h then Ok true else Err Undefined
+defined_as g None = Err (only Undefined)
+defined_as g (Some h) = if agree g h then Ok true else Err (only Undefined)
 
 -- a prototype has a definition in the text, of the same type
 unfoldable pub is_defined : Scope → List Declaration → List (Option ℕ) → Text → Checked Signature → Checked Bool

@@ -10,6 +10,7 @@ use c_ast::types::TypeName;
 use c_check_decl::records::name_number;
 use c_check_scope::checked::Checked;
 use c_check_scope::rule::Rule;
+use c_check_scope::rules::Rules;
 use c_check_scope::scope::Scope;
 use c_check_type::params::{result_type, signature};
 use c_check_type::signatures::{same_signature, signature_number};
@@ -30,7 +31,7 @@ pub fn free_name(scope: &Scope, name: &Name) -> Result<Checked<u32>, AllocError>
     let number = name_number(scope, name)?;
     match scope.global_of(name) {
         None => Ok(Ok(number)),
-        Some(_) => Ok(Err(Rule::NameTaken)),
+        Some(_) => Ok(Err(Rules::only(Rule::NameTaken))),
     }
 }
 
@@ -42,7 +43,7 @@ pub fn next_of(count: u64) -> Checked<u32>
     if count < GREATEST_COUNT {
         Ok(count as u32)
     } else {
-        Err(Rule::TooMany)
+        Err(Rules::only(Rule::TooMany))
     }
 }
 
@@ -126,12 +127,12 @@ pub fn is_defined(
     ensures { IfOk result (λ d. d ≡ spec.is_defined scope.now (declarations text.now) definitions.now name.now heading.now) }
 {
     match heading_of(alloc, scope, text, definitions, name)? {
-        None => Ok(Err(Rule::Undefined)),
+        None => Ok(Err(Rules::only(Rule::Undefined))),
         Some(definition) => {
             if agree(heading, &definition) {
                 Ok(Ok(true))
             } else {
-                Ok(Err(Rule::Undefined))
+                Ok(Err(Rules::only(Rule::Undefined)))
             }
         }
     }

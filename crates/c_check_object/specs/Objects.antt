@@ -1,4 +1,4 @@
--- A struct, union or global of a text: what stands after it, or the broken rule of the least code.
+-- A struct, union or global of a text: what stands after it, or the rules that it breaks.
 use Rattle.std.specs.Prelude.{ℕ, ◌+◌, nat_lt, List, length, Option, Some, None, Ok, Err, if◌then◌else◌}
 use Rattle.lu_spec.specs.Then.{then_do}
 use Rattle.c_types.specs.Layout.{greatest}
@@ -7,7 +7,7 @@ use Rattle.c_ast.specs.Trees.{Text, Object, Initializer}
 use Rattle.c_check_scope.specs.declared.scope.Scope.{Scope}
 use Rattle.c_check_scope.specs.declared.scope.Tag.{Tag}
 use Rattle.c_check_scope.specs.declared.rule.Rule.TheVariants.{NameTaken, Size}
-use Rattle.c_check_scope.specs.Rules.{Checked, both}
+use Rattle.c_check_scope.specs.Rules.{Checked, both, only}
 use Rattle.c_check_scope.specs.Names.{tag_of, object_name}
 use Rattle.c_check_decl.specs.declared.globals.DeclaredGlobal.{DeclaredGlobal}
 use Rattle.c_check_decl.specs.Records.{record_fields}
@@ -21,8 +21,8 @@ use Rattle.c_check_standing.specs.Standings.{with_global}
 -- ---- structs and unions
 
 abbrev pub untaken : Option Tag → Checked ℕ
-untaken None = Err NameTaken
-untaken (Some tag) = if tag.is_declared then Err NameTaken else next_of tag.number
+untaken None = Err (only NameTaken)
+untaken (Some tag) = if tag.is_declared then Err (only NameTaken) else next_of tag.number
 
 -- the first declaration of a tag, and one of at most 4,096 of its kind
 unfoldable pub new_tag : Scope → Text → Checked ℕ
@@ -39,7 +39,7 @@ declared_record s kind x fields =
 
 -- the bytes of all globals with this one
 unfoldable pub sum_with : ℕ → Checked DeclaredGlobal → Checked ℕ
-sum_with bytes made = then_do made (λ g. if nat_lt greatest (bytes + g.size) then Err Size else Ok (bytes + g.size))
+sum_with bytes made = then_do made (λ g. if nat_lt greatest (bytes + g.size) then Err (only Size) else Ok (bytes + g.size))
 
 unfoldable pub summed : ℕ → Checked DeclaredGlobal → Checked (ℕ × DeclaredGlobal)
 summed bytes made = both (sum_with bytes made) made

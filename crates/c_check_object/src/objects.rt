@@ -14,6 +14,7 @@ use c_check_known::scoping::declare_tag;
 use c_check_scope::checked::{Checked, both};
 use c_check_scope::names::object_name;
 use c_check_scope::rule::Rule;
+use c_check_scope::rules::Rules;
 use c_check_scope::scope::Scope;
 use c_check_standing::standing::{Functions, Standing, with_global};
 use c_types::GREATEST;
@@ -27,10 +28,10 @@ fn new_tag(scope: &Scope, name: &Name) -> Checked<u32>
     ensures { result ≡ spec.new_tag scope.now name.now }
 {
     match scope.tag_of(name) {
-        None => Err(Rule::NameTaken),
+        None => Err(Rules::only(Rule::NameTaken)),
         Some(tag) => {
             if tag.is_declared {
-                Err(Rule::NameTaken)
+                Err(Rules::only(Rule::NameTaken))
             } else {
                 next_of(tag.number as u64)
             }
@@ -48,7 +49,7 @@ fn with_tag(standing: Standing, name: &Name) -> Standing
     standing
 }
 
-/// What stands after the declaration of a struct or union, or the broken rule of the least code.
+/// What stands after the declaration of a struct or union, or the rules that it breaks.
 #[tactic(auto, unfolding(crate::specs::Objects::declared_record))]
 pub fn declared_record(
     alloc: Global,
@@ -64,7 +65,7 @@ pub fn declared_record(
 {
     let fields = record_fields(alloc, &standing.scope, &types.types, kind, fields)?;
     match both(new_tag(&standing.scope, name), fields) {
-        Err(rule) => Ok(Err(rule)),
+        Err(rules) => Ok(Err(rules)),
         Ok(_) => Ok(Ok(with_tag(standing, name))),
     }
 }
@@ -74,12 +75,12 @@ fn sum_with(bytes: u64, made: &Checked<DeclaredGlobal>) -> Result<Checked<u64>, 
     ensures { IfOk result (λ sum. sum ≡ spec.sum_with bytes made.now) }
 {
     match made {
-        Err(rule) => Ok(Err(*rule)),
+        Err(rules) => Ok(Err(*rules)),
         Ok(made) => match bytes.checked_add(made.size) {
             None => Err(AllocError),
             Some(sum) => {
                 if (GREATEST as u64) < sum {
-                    Ok(Err(Rule::Size))
+                    Ok(Err(Rules::only(Rule::Size)))
                 } else {
                     Ok(Ok(sum))
                 }
@@ -128,7 +129,7 @@ fn global_made(
     ensures types { IfOk result (λ s. IfOk s (λ s. s.scope.types ≡ standing.scope.types)) }
 {
     match judged {
-        Err(rule) => Ok(Err(rule)),
+        Err(rules) => Ok(Err(rules)),
         Ok(((name, _number), (bytes, made))) => {
             let with_one_more = with_global(standing, name, bytes, made)?;
             Ok(Ok(with_one_more))
@@ -136,7 +137,7 @@ fn global_made(
     }
 }
 
-/// What stands after the declaration of a global, or the broken rule of the least code.
+/// What stands after the declaration of a global, or the rules that it breaks.
 pub fn declared_global(
     alloc: Global,
     types: &Program,

@@ -1,2 +1,3 @@
 pub mod NameLemmas
 pub mod Past
+pub mod Sets

@@ -1,5 +1,6 @@
--- Broken rules and their codes.
-use Rattle.std.specs.Prelude.{ℕ, nat_lt, Option, Some, None, Result, Ok, Err, if◌then◌else◌}
+-- Rules, their codes, and sets of broken rules.
+use Rattle.std.specs.Prelude.{ℕ, ◌^◌, ◌≤◌, nat_eq, bit_or, Bool, false, Option, Some, None, Result, Ok, Err}
+use Rattle.std.specs.Int.{bit_at}
 use Rattle.c_check_scope.specs.declared.rule.Rule.{Rule}
 use Rattle.c_check_scope.specs.declared.rule.Rule.TheVariants.{NameTaken, Fields, UnknownTag, VoidValue, ArrayLength, Size, NotScalar, LocalTaken, Initialiser, Undefined, Undeclared, NotPlace, NoAddress, NoField, NoPointer, Operands, Conversion, Condition, Callee, BuiltIn, OutsideLoop, VoidResult, Returned, InsideUnion, Cast, EntryPoint, TooManyLocals, TooMany}
 
@@ -34,27 +35,49 @@ code EntryPoint = 25
 code TooManyLocals = 26
 code TooMany = 27
 
--- the rule of the lesser code
-unfoldable pub least : Rule → Rule → Rule
-least a b = if nat_lt (code b) (code a) then b else a
+-- a set of broken rules: its bit at each code tells whether the rule of that code is among them
+abbrev pub Rules : Type 0
+Rules = ℕ
 
--- what is typed, or the broken rule of the least code
+-- one rule alone
+unfoldable pub only : Rule → Rules
+only r = 2 ^ code r
+
+-- the rules of both sets
+unfoldable pub union : Rules → Rules → Rules
+union r s = bit_or r s
+
+-- whether the rule of a code is in the set
+unfoldable pub has : Rules → ℕ → Bool
+has r c = nat_eq (bit_at r c) 1
+
+-- the least number of which something is true
+pub record IsLeast (P : ℕ → Type 0) (n : ℕ) : Type 0 where
+  pub is : P n
+  pub first : (m : ℕ) → P m → n ≤ m
+
+-- what is typed, or the rules that it breaks
 abbrev pub Checked : Type 0 → Type 0
-Checked A = Result A Rule
+Checked A = Result A Rules
 
--- both, or of the broken rules the one of the least code
+-- both, or the rules that they break
 unfoldable pub both : {A B : Type 0} → Checked A → Checked B → Checked (A × B)
 both (Ok a) (Ok b) = Ok (a, b)
 both (Ok a) (Err s) = Err s
 both (Err r) (Ok b) = Err r
-both (Err r) (Err s) = Err (least r s)
+both (Err r) (Err s) = Err (union r s)
 
--- a broken rule with one more, if any
-unfoldable pub broken : {A : Type 0} → Rule → Checked A → Rule
+-- broken rules with those that one more part breaks
+unfoldable pub broken : {A : Type 0} → Rules → Checked A → Rules
 broken r (Ok a) = r
-broken r (Err s) = least r s
+broken r (Err s) = union r s
 
 -- the value, or the broken rule where there is none
 abbrev pub or_rule : {A : Type 0} → Rule → Option A → Checked A
-or_rule r None = Err r
+or_rule r None = Err (only r)
 or_rule r (Some a) = Ok a
+
+-- whether the rule of a code is broken
+abbrev pub breaks : {A : Type 0} → Checked A → ℕ → Bool
+breaks (Ok a) c = false
+breaks (Err r) c = has r c

@@ -6,4 +6,5 @@ pub mod error;
 pub mod names;
 pub mod numbers;
 pub mod rule;
+pub mod rules;
 pub mod scope;

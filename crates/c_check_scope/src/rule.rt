@@ -1,7 +1,7 @@
 // The typing rules.
 
 ghost use Rattle.std.specs.Prelude.{◌≡◌};
-ghost use Rattle.c_check_scope.specs.Rules.{code, least};
+ghost use Rattle.c_check_scope.specs.Rules.{code};
 
 /// A typing rule, named by how it is broken.
 #[derive(Clone, Copy, Debug, PartialEq, Eq)]
@@ -102,12 +102,4 @@ impl Rule {
             Rule::TooMany => 27,
         }
     }
-}
-
-/// The rule of the lesser code.
-#[tactic(auto, unfolding(crate::specs::Rules::least))]
-pub fn least(a: Rule, b: Rule) -> Rule
-    ensures { result ≡ least a b }
-{
-    if b.code() < a.code() { b } else { a }
 }

@@ -5,7 +5,7 @@ use Rattle.c_ast.specs.Trees.{Parameters, Statements}
 use Rattle.src_model.specs.declared.stmt.TypedStmt.{TypedStmt}
 use Rattle.c_check_scope.specs.declared.scope.Scope.{Scope}
 use Rattle.c_check_scope.specs.declared.rule.Rule.TheVariants.{TooManyLocals}
-use Rattle.c_check_scope.specs.Rules.{Checked, both}
+use Rattle.c_check_scope.specs.Rules.{Checked, both, only}
 use Rattle.c_check_stmt.specs.declared.state.State.{State}
 use Rattle.c_check_stmt.specs.declared.state.Frame.{Frame}
 use Rattle.c_check_stmt.specs.declared.bodies.Body.{Body}
@@ -14,7 +14,7 @@ use Rattle.c_check_stmt.specs.Statements.{after_all, typed_statements}
 
 -- at most 256 parameters and locals
 unfoldable pub few : Scope → Checked ℕ
-few scope = if nat_lt 256 (length scope.variables) then Err TooManyLocals else Ok (length scope.variables)
+few scope = if nat_lt 256 (length scope.variables) then Err (only TooManyLocals) else Ok (length scope.variables)
 
 -- what is known behind the parameters
 abbrev pub start : Scope → Parameters → State

@@ -11,7 +11,7 @@ use Rattle.c_check_expr.specs.declared.calls.Position.TheVariants.{Statement, Ri
 use Rattle.c_check_expr.specs.declared.uses.Assigned.{Assigned}
 use Rattle.c_check_expr.specs.declared.uses.Assigned.TheVariants as A
 use Rattle.c_check_scope.specs.declared.rule.Rule.TheVariants.{OutsideLoop, Returned}
-use Rattle.c_check_scope.specs.Rules.{Checked, both}
+use Rattle.c_check_scope.specs.Rules.{Checked, both, only}
 use Rattle.c_check_expr.specs.Uses.{condition, left_side}
 use Rattle.c_check_type.specs.Declarators.{param_type}
 use Rattle.c_check_stmt.specs.declared.state.State.{State}
@@ -66,16 +66,16 @@ called f s callee es = then_do (invoked f s Statement callee es) (λ made. Ok (T
 -- `break` and `continue` stand in a loop
 unfoldable pub jump : Bool → TypedStmt → Checked TypedStmt
 jump true statement = Ok statement
-jump false statement = Err OutsideLoop
+jump false statement = Err (only OutsideLoop)
 
 -- the type for which a value is returned
 unfoldable pub result_type : Option ℕ → Checked ℕ
-result_type None = Err Returned
+result_type None = Err (only Returned)
 result_type (Some t) = Ok t
 
 unfoldable pub without_value : Option ℕ → Checked TypedStmt
 without_value None = Ok (T.Return None)
-without_value (Some t) = Err Returned
+without_value (Some t) = Err (only Returned)
 
 unfoldable pub returned : Frame → State → Option Right → Checked TypedStmt
 returned f s None = without_value f.result

@@ -8,7 +8,7 @@ use Rattle.c_check_scope.specs.declared.scope.Scope.{Scope}
 use Rattle.c_check_scope.specs.declared.scope.Meaning.{Meaning}
 use Rattle.c_check_scope.specs.declared.scope.Meaning.TheVariants.{Local}
 use Rattle.c_check_scope.specs.declared.rule.Rule.TheVariants.{LocalTaken}
-use Rattle.c_check_scope.specs.Rules.{Checked, both}
+use Rattle.c_check_scope.specs.Rules.{Checked, both, only}
 use Rattle.c_check_scope.specs.Names.{meaning_of, with_name}
 use Rattle.c_check_expr.specs.Denoted.{number}
 use Rattle.c_check_type.specs.Declarators.{param_type}
@@ -29,7 +29,7 @@ used_type p (Ok t) = t
 
 abbrev pub fresh_in : Scope → Option Meaning → Checked ℕ
 fresh_in scope None = Ok (length scope.variables)
-fresh_in scope (Some m) = Err LocalTaken
+fresh_in scope (Some m) = Err (only LocalTaken)
 
 -- the number of the next variable, whose name isn't taken
 unfoldable pub fresh : Scope → Text → Checked ℕ
@@ -44,7 +44,7 @@ with_variable_in scope x t (Some m) = scope
 unfoldable pub with_variable : Scope → Text → ℕ → Scope
 with_variable scope x t = with_variable_in scope x t (meaning_of scope x)
 
--- the second number, or of the broken rules the one of the least code
+-- the second number, or the rules that are broken
 unfoldable pub later : Checked ℕ → Checked ℕ → Checked ℕ
 later done next = then_do (both done next) (λ v. Ok v.1)
 

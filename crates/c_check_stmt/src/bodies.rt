@@ -16,7 +16,7 @@ pub struct Body {
     pub statements: Items<TypedStmt>,
 }
 
-/// A body, or the broken rule of the least code, with the scope outside functions.
+/// A body, or the rules that it breaks, with the scope outside functions.
 #[derive(Drop)]
 pub struct Judged {
     pub scope: Scope,

@@ -13,6 +13,7 @@ use c_ast::stmt::{Param, Stmt};
 use c_check_scope::checked::{Checked, both};
 use c_check_scope::names::Names;
 use c_check_scope::rule::Rule;
+use c_check_scope::rules::Rules;
 use c_check_scope::scope::Scope;
 use c_types::TyId;
 use sqlite_items::Items;
@@ -28,7 +29,7 @@ fn few(scope: &Scope) -> Checked<usize>
 {
     let count = scope.variables.len();
     if GREATEST_LOCALS < count {
-        Err(Rule::TooManyLocals)
+        Err(Rules::only(Rule::TooManyLocals))
     } else {
         Ok(count)
     }
@@ -58,7 +59,7 @@ fn whole(
     ensures { result ≡ spec.whole locals sites parts count }
 {
     match both(parts, count) {
-        Err(rule) => Err(rule),
+        Err(rules) => Err(rules),
         Ok(((_, statements), _)) => Ok(Body {
             locals,
             sites,

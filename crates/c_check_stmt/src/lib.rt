@@ -1,5 +1,5 @@
 //! The typing of the statements of a function of the C subset: its typed statements, the types of its locals and what
-//! it allocates, or the least code of the rules that it breaks.
+//! it allocates, or the rules that it breaks.
 #![tactic(auto)]
 
 pub mod bodies;

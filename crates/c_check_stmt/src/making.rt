@@ -26,7 +26,7 @@ pub fn made_block(
     ensures { IfOk result (λ s. s ≡ spec.made_block body) }
 {
     match body {
-        Err(rule) => Ok(Err(rule)),
+        Err(rules) => Ok(Err(rules)),
         Ok(body) => boxed(alloc, Ok(TypedStmt::Block(body))),
     }
 }
@@ -40,7 +40,7 @@ pub fn made_if(
     ensures { IfOk result (λ s. s ≡ spec.made_if e then) }
 {
     match both(e, then) {
-        Err(rule) => Ok(Err(rule)),
+        Err(rules) => Ok(Err(rules)),
         Ok((e, then)) => boxed(
             alloc,
             Ok(TypedStmt::If(e.into_inner(), then, Items::new(alloc))),
@@ -58,7 +58,7 @@ pub fn with_else(
     ensures { IfOk result (λ s. s ≡ spec.with_else front otherwise) }
 {
     match both(front, otherwise) {
-        Err(rule) => Ok(Err(rule)),
+        Err(rules) => Ok(Err(rules)),
         Ok(((e, then), otherwise)) => {
             let otherwise = single(alloc, otherwise)?;
             boxed(alloc, Ok(TypedStmt::If(e.into_inner(), then, otherwise)))
@@ -75,7 +75,7 @@ pub fn made_while(
     ensures { IfOk result (λ s. s ≡ spec.made_while e body) }
 {
     match both(e, body) {
-        Err(rule) => Ok(Err(rule)),
+        Err(rules) => Ok(Err(rules)),
         Ok((e, body)) => boxed(alloc, Ok(TypedStmt::While(e.into_inner(), body))),
     }
 }
@@ -88,7 +88,7 @@ fn with_step(
     ensures { result ≡ spec.with_step front step }
 {
     match both(front, step) {
-        Err(rule) => Err(rule),
+        Err(rules) => Err(rules),
         Ok(((first, test), step)) => Ok(Head { first, test, step }),
     }
 }
@@ -121,7 +121,7 @@ pub fn made_for(
     ensures { IfOk result (λ s. s ≡ spec.made_for head body) }
 {
     match both(head, body) {
-        Err(rule) => Ok(Err(rule)),
+        Err(rules) => Ok(Err(rules)),
         Ok((head, body)) => boxed(
             alloc,
             Ok(TypedStmt::For(head.first, unboxed(head.test), head.step, body)),
@@ -129,7 +129,7 @@ pub fn made_for(
     }
 }
 
-/// One more statement, or of the broken rules the one of the least code.
+/// One more statement, or the rules that are broken.
 #[tactic(auto, unfolding(crate::specs::Statements::one_more))]
 pub fn one_more(
     done: Checked<Items<TypedStmt>>,
@@ -138,7 +138,7 @@ pub fn one_more(
     ensures { IfOk result (λ list. list ≡ spec.one_more done next) }
 {
     match both(done, next) {
-        Err(rule) => Ok(Err(rule)),
+        Err(rules) => Ok(Err(rules)),
         Ok((mut done, next)) => {
             done.push(next.into_inner())?;
             Ok(Ok(done))

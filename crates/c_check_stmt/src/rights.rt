@@ -66,13 +66,13 @@ pub fn value_for(
 {
     match ty {
         Ok(ty) => match right_side(alloc, scope, ty, e)? {
-            Err(rule) => Ok(Err(rule)),
+            Err(rules) => Ok(Err(rules)),
             Ok(e) => Ok(Ok(Rhs::Value(e.into_inner()))),
         },
-        Err(rule) => {
+        Err(rules) => {
             let denoted = denoted(alloc, scope, e)?;
             let e = valued(alloc, &scope.types, denoted)?;
-            Ok(Err(broken(rule, e)))
+            Ok(Err(broken(rules, e)))
         }
     }
 }
@@ -82,11 +82,11 @@ fn result_for(types: &Types, ty: Checked<TyId>, made: Checked<Invocation>) -> Ch
     ensures { result ≡ spec.result_for types.now ty made }
 {
     match ty {
-        Err(rule) => Err(broken(rule, made)),
+        Err(rules) => Err(broken(rules, made)),
         Ok(ty) => match made {
-            Err(rule) => Err(rule),
+            Err(rules) => Err(rules),
             Ok(made) => match call_value(types, ty, made) {
-                Err(rule) => Err(rule),
+                Err(rules) => Err(rules),
                 Ok(made) => Ok(Rhs::Call(made.call, ty)),
             },
         },
@@ -130,11 +130,11 @@ pub fn right_if_any_for(
 {
     match rhs {
         None => match ty {
-            Err(rule) => Ok(Err(rule)),
+            Err(rules) => Ok(Err(rules)),
             Ok(_) => Ok(Ok(None)),
         },
         Some(rhs) => match right_for(alloc, frame, state, position, ty, rhs)? {
-            Err(rule) => Ok(Err(rule)),
+            Err(rules) => Ok(Err(rules)),
             Ok(rhs) => Ok(Ok(Some(rhs))),
         },
     }

@@ -9,13 +9,14 @@ ghost use Rattle.c_check_expr.specs.declared.calls.Position.TheVariants as P;
 
 use crate::rights::{invoked, right_for, right_if_any_for, value_for};
 use crate::state::{Frame, State};
-use crate::variables::{declare, name_of, used_type};
+use crate::variables::{copied, declare, name_of, used_type};
 use c_ast::expr::Expr;
 use c_ast::stmt::{Param, RightSide, Simple};
 use c_check_expr::calls::Position;
 use c_check_expr::uses::{Assigned, condition, left_side};
 use c_check_scope::checked::{Checked, both};
 use c_check_scope::rule::Rule;
+use c_check_scope::rules::Rules;
 use c_check_scope::scope::Scope;
 use c_check_type::params::param_type;
 use c_types::TyId;
@@ -33,7 +34,7 @@ pub fn boxed(
     ensures { IfOk result (λ s. s ≡ stmt) }
 {
     match stmt {
-        Err(rule) => Ok(Err(rule)),
+        Err(rules) => Ok(Err(rules)),
         Ok(stmt) => Ok(Ok(Boxed::new(alloc, stmt)?)),
     }
 }
@@ -56,7 +57,7 @@ fn declare_local(
     ensures number { IfOk result (λ number. number ≡ variables.declared state.old.scope ty name.now) }
     ensures state { IfOk result (λ _. state.new ≡ spec.with_local state.old name.now (variables.used_type state.old.scope.types ty)) }
 {
-    let used = used_type(&state.scope.types, ty);
+    let used = used_type(&state.scope.types, &ty);
     let number = declare(alloc, &mut state.scope, ty, name)?;
     state.locals.push(used)?;
     Ok(number)
@@ -70,7 +71,7 @@ fn declaration(
     ensures { IfOk result (λ s. s ≡ spec.declaration initial number) }
 {
     match both(initial, number) {
-        Err(rule) => Ok(Err(rule)),
+        Err(rules) => Ok(Err(rules)),
         Ok((initial, number)) => boxed(alloc, Ok(TypedStmt::Declare(number, initial))),
     }
 }
@@ -88,7 +89,8 @@ pub fn local(
     ensures state { IfOk result (λ _. state.new ≡ spec.after_local frame state.old (parameter param.now) (right_if_any initial.now)) }
 {
     let ty = param_type(alloc, &state.scope, param)?;
-    let initial = right_if_any_for(alloc, frame, state, Position::RightSide, ty, initial)?;
+    let wanted = copied(&ty);
+    let initial = right_if_any_for(alloc, frame, state, Position::RightSide, wanted, initial)?;
     let number = declare_local(alloc, state, ty, name_of(param))?;
     declaration(alloc, initial, number)
 }
@@ -98,7 +100,7 @@ fn target_type(left: &Checked<Assigned>) -> Checked<TyId>
     ensures { result ≡ spec.target_type left.now }
 {
     match left {
-        Err(rule) => Err(*rule),
+        Err(rules) => Err(*rules),
         Ok(Assigned::Local(_, ty)) => Ok(*ty),
         Ok(Assigned::Place(place)) => Ok(place.get().ty),
     }
@@ -122,7 +124,7 @@ fn assigned(
     ensures { IfOk result (λ s. s ≡ spec.assigned left rhs) }
 {
     match both(left, rhs) {
-        Err(rule) => Ok(Err(rule)),
+        Err(rules) => Ok(Err(rules)),
         Ok((left, rhs)) => boxed(alloc, Ok(set(left, rhs))),
     }
 }
@@ -158,7 +160,7 @@ pub fn called(
     ensures state { IfOk result (λ _. state.new ≡ rights.after_call frame state.old P.Statement (expression callee.now) (expressions args.now)) }
 {
     match invoked(alloc, frame, state, Position::Statement, callee, args)? {
-        Err(rule) => Ok(Err(rule)),
+        Err(rules) => Ok(Err(rules)),
         Ok(made) => boxed(alloc, Ok(TypedStmt::Call(made.call))),
     }
 }
@@ -171,7 +173,7 @@ pub fn break_off(alloc: Global, is_inside: bool) -> Result<Checked<Boxed<TypedSt
     if is_inside {
         boxed(alloc, Ok(TypedStmt::Break))
     } else {
-        Ok(Err(Rule::OutsideLoop))
+        Ok(Err(Rules::only(Rule::OutsideLoop)))
     }
 }
 
@@ -183,7 +185,7 @@ pub fn go_on(alloc: Global, is_inside: bool) -> Result<Checked<Boxed<TypedStmt>>
     if is_inside {
         boxed(alloc, Ok(TypedStmt::Continue))
     } else {
-        Ok(Err(Rule::OutsideLoop))
+        Ok(Err(Rules::only(Rule::OutsideLoop)))
     }
 }
 
@@ -192,7 +194,7 @@ fn result_type(result_ty: Option<TyId>) -> Checked<TyId>
     ensures { result ≡ spec.result_type result_ty }
 {
     match result_ty {
-        None => Err(Rule::Returned),
+        None => Err(Rules::only(Rule::Returned)),
         Some(ty) => Ok(ty),
     }
 }
@@ -206,7 +208,7 @@ fn without_value(
 {
     match result_ty {
         None => boxed(alloc, Ok(TypedStmt::Return(None))),
-        Some(_) => Ok(Err(Rule::Returned)),
+        Some(_) => Ok(Err(Rules::only(Rule::Returned))),
     }
 }
 
@@ -226,7 +228,7 @@ pub fn returned(
         Some(rhs) => {
             let ty = result_type(frame.result);
             match right_for(alloc, frame, state, Position::Return, ty, rhs)? {
-                Err(rule) => Ok(Err(rule)),
+                Err(rules) => Ok(Err(rules)),
                 Ok(rhs) => boxed(alloc, Ok(TypedStmt::Return(Some(rhs)))),
             }
         }
@@ -259,7 +261,7 @@ pub fn setting_list(
     match simple {
         None => Ok(Ok(Items::new(alloc))),
         Some(simple) => match setting(alloc, scope, simple)? {
-            Err(rule) => Ok(Err(rule)),
+            Err(rules) => Ok(Err(rules)),
             Ok(stmt) => Ok(Ok(single(alloc, stmt)?)),
         },
     }
@@ -277,7 +279,7 @@ pub fn condition_if_any(
     match e {
         None => Ok(Ok(None)),
         Some(e) => match condition(alloc, scope, e.get())? {
-            Err(rule) => Ok(Err(rule)),
+            Err(rules) => Ok(Err(rules)),
             Ok(e) => Ok(Ok(Some(e))),
         },
     }

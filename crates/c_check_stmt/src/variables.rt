@@ -9,6 +9,7 @@ use c_ast::stmt::Param;
 use c_check_scope::checked::{Checked, both};
 use c_check_scope::numbers::as_number;
 use c_check_scope::rule::Rule;
+use c_check_scope::rules::Rules;
 use c_check_scope::scope::{Meaning, Scope};
 use c_check_type::params::param_type;
 use c_judge::operation::INT;
@@ -30,12 +31,22 @@ pub fn name_of(param: &Param) -> &Name
 
 /// The type that a variable has where it is used: int where its own breaks a rule.
 #[tactic(auto, unfolding(crate::specs::Variables::used_type))]
-pub fn used_type(types: &Types, ty: Checked<TyId>) -> TyId
-    ensures { result ≡ spec.used_type types.now ty }
+pub fn used_type(types: &Types, ty: &Checked<TyId>) -> TyId
+    ensures { result ≡ spec.used_type types.now ty.now }
 {
     match ty {
         Err(_) => types.number_of(INT),
-        Ok(ty) => ty,
+        Ok(ty) => *ty,
+    }
+}
+
+/// A type, or the rules that it breaks, once more.
+pub fn copied(ty: &Checked<TyId>) -> Checked<TyId>
+    ensures { result ≡ ty.now }
+{
+    match ty {
+        Err(rules) => Err(*rules),
+        Ok(ty) => Ok(*ty),
     }
 }
 
@@ -50,7 +61,7 @@ fn add_variable(
     ensures scope { IfOk result (λ _. scope.new ≡ spec.with_variable scope.old name.now ty) }
 {
     match scope.meaning_of(name) {
-        Some(_) => Ok(Err(Rule::LocalTaken)),
+        Some(_) => Ok(Err(Rules::only(Rule::LocalTaken))),
         None => {
             let number = as_number(scope.variables.len())?;
             scope.locals.add(alloc, name)?;
@@ -65,7 +76,7 @@ fn later(done: Checked<u32>, next: Checked<u32>) -> Checked<u32>
     ensures { result ≡ spec.later done next }
 {
     match both(done, next) {
-        Err(rule) => Err(rule),
+        Err(rules) => Err(rules),
         Ok((_, number)) => Ok(number),
     }
 }
@@ -80,7 +91,7 @@ pub fn declare(
     ensures number { IfOk result (λ number. number ≡ spec.declared scope.old ty name.now) }
     ensures scope { IfOk result (λ _. scope.new ≡ spec.with_variable scope.old name.now (spec.used_type scope.old.types ty)) }
 {
-    let used = used_type(&scope.types, ty);
+    let used = used_type(&scope.types, &ty);
     let number = add_variable(alloc, scope, name, used)?;
     Ok(later(ty, number))
 }

@@ -1,4 +1,4 @@
--- What declarators denote in a scope: the number of a type, or the broken rule of the least code.
+-- What declarators denote in a scope: the number of a type, or the rules that they break.
 use Rattle.std.specs.Prelude.{ℕ, zero, nat_lt, Bool, ◌&&◌, List, [], ◌∷◌, ◌++◌, length, Option, Some, None, Ok, Err, position, if◌then◌else◌}
 use Rattle.std.specs.Option.{option_map_or}
 use Rattle.lu_spec.specs.Then.{then_do}
@@ -14,7 +14,7 @@ use Rattle.src_model.specs.Store.{same_result, same_numbers}
 use Rattle.c_judge.specs.Kinds.{is_scalar}
 use Rattle.c_check_scope.specs.declared.scope.Scope.{Scope}
 use Rattle.c_check_scope.specs.declared.rule.Rule.TheVariants.{ArrayLength, NotScalar, TooManyLocals}
-use Rattle.c_check_scope.specs.Rules.{Checked, both}
+use Rattle.c_check_scope.specs.Rules.{Checked, both, only}
 use Rattle.c_check_expr.specs.Denoted.{type_at, number}
 use Rattle.c_check_expr.specs.Typing.{named}
 use Rattle.c_check_type.specs.declared.objects.ObjectType.{ObjectType}
@@ -35,7 +35,7 @@ pointer_type p g = then_do g (λ s. Ok (number p (T.Function (signature_number p
 
 -- only a scalar may stand there
 unfoldable pub scalar_type : Parts → Checked ℕ → Checked ℕ
-scalar_type p ty = then_do ty (λ t. if is_scalar (type_at p t) then Ok t else Err NotScalar)
+scalar_type p ty = then_do ty (λ t. if is_scalar (type_at p t) then Ok t else Err (only NotScalar))
 
 -- `void` without a star is no type of a value
 abbrev pub result_of : Scope → TypeName → BaseType → ℕ → Checked (Option ℕ)
@@ -51,7 +51,7 @@ one_more ts t = then_do (both ts t) (λ x. Ok (x.0 ++ (x.1 ∷ [])))
 
 -- at most 64 parameters
 unfoldable pub few : Checked (List ℕ) → Checked (List ℕ)
-few ts = then_do ts (λ l. if nat_lt 64 (length l) then Err TooManyLocals else Ok l)
+few ts = then_do ts (λ l. if nat_lt 64 (length l) then Err (only TooManyLocals) else Ok l)
 
 unfoldable pub made_signature : Checked (Option ℕ) → Checked (List ℕ) → Checked Signature
 made_signature answer ts =
@@ -77,7 +77,7 @@ signature scope t ps = made_signature (result_type scope t) (param_types scope (
 
 -- 1 to 1,048,576 elements
 unfoldable pub array_length : Number → Checked ℕ
-array_length n = if nat_lt 0 n.value && nat_lt n.value 1048577 then Ok n.value else Err ArrayLength
+array_length n = if nat_lt 0 n.value && nat_lt n.value 1048577 then Ok n.value else Err (only ArrayLength)
 
 -- an array where a length stands there
 unfoldable pub with_length : Checked ℕ → Option Number → Checked ObjectType

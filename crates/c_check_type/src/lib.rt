@@ -1,5 +1,4 @@
-//! What the declarators of the C subset denote in a scope: the number of a type, or the least code of the rules that
-//! they break.
+//! What the declarators of the C subset denote in a scope: the number of a type, or the rules that they break.
 #![tactic(auto)]
 
 pub mod objects;

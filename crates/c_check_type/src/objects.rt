@@ -11,6 +11,7 @@ use c_ast::token::Number;
 use c_check_expr::typing::named;
 use c_check_scope::checked::{Checked, both};
 use c_check_scope::rule::Rule;
+use c_check_scope::rules::Rules;
 use c_check_scope::scope::Scope;
 use c_judge::types::Types;
 use c_types::{Ty, TyId};
@@ -35,7 +36,7 @@ fn array_length(length: Number) -> Checked<u32>
     if 0 < length.value && length.value <= GREATEST_LENGTH {
         Ok(length.value as u32)
     } else {
-        Err(Rule::ArrayLength)
+        Err(Rules::only(Rule::ArrayLength))
     }
 }
 
@@ -45,14 +46,14 @@ fn with_length(ty: Checked<TyId>, length: Option<Number>) -> Checked<ObjectType>
 {
     match length {
         None => match ty {
-            Err(rule) => Err(rule),
+            Err(rules) => Err(rules),
             Ok(element) => Ok(ObjectType {
                 element,
                 count: None,
             }),
         },
         Some(length) => match both(ty, array_length(length)) {
-            Err(rule) => Err(rule),
+            Err(rules) => Err(rules),
             Ok((element, count)) => Ok(ObjectType {
                 element,
                 count: Some(count),

@@ -11,6 +11,7 @@ use c_check_expr::typing::named;
 use c_check_expr::values::type_at;
 use c_check_scope::checked::{Checked, both};
 use c_check_scope::rule::Rule;
+use c_check_scope::rules::Rules;
 use c_check_scope::scope::Scope;
 use c_judge::kinds::is_scalar;
 use c_judge::types::Types;
@@ -25,12 +26,12 @@ fn scalar_type(types: &Types, ty: Checked<TyId>) -> Checked<TyId>
     ensures { result ≡ spec.scalar_type types.now ty }
 {
     match ty {
-        Err(rule) => Err(rule),
+        Err(rules) => Err(rules),
         Ok(ty) => {
             if is_scalar(type_at(types, ty)) {
                 Ok(ty)
             } else {
-                Err(Rule::NotScalar)
+                Err(Rules::only(Rule::NotScalar))
             }
         }
     }
@@ -47,7 +48,7 @@ pub fn result_type(scope: &Scope, name: &TypeName) -> Checked<Option<TyId>>
         }
     }
     match scalar_type(&scope.types, named(scope, name)) {
-        Err(rule) => Err(rule),
+        Err(rules) => Err(rules),
         Ok(ty) => Ok(Some(ty)),
     }
 }
@@ -60,7 +61,7 @@ fn one_more(
     ensures { IfOk result (λ types. types ≡ spec.one_more done ty) }
 {
     match both(done, ty) {
-        Err(rule) => Ok(Err(rule)),
+        Err(rules) => Ok(Err(rules)),
         Ok((done, ty)) => {
             let mut types = done.into_vec();
             types.push(ty)?;
@@ -74,10 +75,10 @@ fn few(types: Checked<Sequence<TyId>>) -> Checked<Sequence<TyId>>
     ensures { result ≡ spec.few types }
 {
     match types {
-        Err(rule) => Err(rule),
+        Err(rules) => Err(rules),
         Ok(types) => {
             if GREATEST_PARAMS < types.as_slice().len() {
-                Err(Rule::TooManyLocals)
+                Err(Rules::only(Rule::TooManyLocals))
             } else {
                 Ok(types)
             }
@@ -93,7 +94,7 @@ fn made_signature(
     ensures { result ≡ spec.made_signature answer params }
 {
     match both(answer, few(params)) {
-        Err(rule) => Err(rule),
+        Err(rules) => Err(rules),
         Ok((answer, params)) => Ok(Signature {
             result: answer,
             params,

@@ -40,7 +40,7 @@ pub fn pointer_type(types: &Types, signature: Checked<Signature>) -> Checked<TyI
     ensures { result ≡ spec.pointer_type types.now signature }
 {
     match signature {
-        Err(rule) => Err(rule),
+        Err(rules) => Err(rules),
         Ok(signature) => Ok(types.number_of(Ty::Function(signature_number(types, &signature)))),
     }
 }
