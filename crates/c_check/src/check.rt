@@ -69,23 +69,11 @@ fn has_common(table: &TypeTable) -> bool
     has_types(table.parts())
 }
 
-/// Whether a table has as many structs and unions as a text declares.
-#[tactic(auto, unfolding(crate::specs::Denotation::has_as_many))]
-fn has_as_many(alloc: Global, table: &TypeTable, text: &[Decl]) -> Result<bool, AllocError>
-    ensures { IfOk result (λ has. has ≡ denotation.has_as_many table.now (declarations text.now)) }
-{
-    let outline = outline(alloc, text)?;
-    let parts = table.parts();
-    let structs = parts.structs.as_slice().len();
-    let unions = parts.unions.as_slice().len();
-    Ok(structs == outline.structs as usize && unions == outline.unions as usize)
-}
-
 /// Whether a table has the types that each program has, and those of a text.
 fn has_text(alloc: Global, table: &TypeTable, text: &[Decl]) -> Result<bool, AllocError>
     ensures { IfOk result (λ has. has ≡ denotation.has_text table.now (declarations text.now)) }
 {
-    if has_common(table) && has_as_many(alloc, table, text)? {
+    if has_common(table) {
         has_declarations(alloc, table, text)
     } else {
         Ok(false)
@@ -105,20 +93,13 @@ fn types_alone(alloc: Global, table: TypeTable) -> Program
     }
 }
 
-/// The table of types that is made for a text. Want of memory also where none is.
-fn made_table(alloc: Global, text: &[Decl]) -> Result<TypeTable, AllocError> {
-    let outline = outline(alloc, text)?;
-    match make_table(alloc, text, &outline)? {
-        Some(table) => Ok(table),
-        None => Err(AllocError),
-    }
-}
-
-/// The table of the types of a text. Want of memory also where the table that is made hasn't all of them.
+/// The table of the types of a text. Want of memory also where none can be made, or it hasn't all that it is asked for.
 fn table_of(alloc: Global, text: &[Decl]) -> Result<TypeTable, AllocError>
     ensures { IfOk result (IsTableOf (declarations text.now)) }
 {
-    let table = made_table(alloc, text)?;
+    let Some(table) = make_table(alloc, text)? else {
+        return Err(AllocError);
+    };
     let has_text = has_text(alloc, &table, text)?;
     let _parts = table.parts();
     if has_text { Ok(table) } else { Err(AllocError) }
@@ -190,9 +171,10 @@ fn denoted(alloc: Global, text: &[Decl]) -> Result<Result<Program, Broken>, Allo
     Ok(judged)
 }
 
-/// The program that a text denotes, which is valid, or the first declaration of the text that breaks a rule. Want of
-/// memory also where no table of the types of the text is made, or the program isn't valid, as where the tree of the text
-/// passes the limits of its grammar.
+/// The program that a text denotes, which is valid, or the first declaration of the text that breaks a rule, with the
+/// least code of the rules that it breaks. Want of memory also where the types of the text are no table, or the program
+/// isn't valid, as where the tree of the text passes the limits of its grammar.
+#[tactic(auto, using(crate::proofs::Denoting::refuses))]
 pub fn check(alloc: Global, text: &[Decl]) -> Result<Program, CheckError>
     ensures denoted { IfOk result (Denotes (declarations text.now)) }
     ensures valid { IfOk result IsValid }

@@ -5,7 +5,8 @@ use Rattle.lu_spec.specs.Then.{then_do}
 use Rattle.c_types.specs.declared.parts.TheConstants.{POINTER_SIZE}
 use Rattle.c_types.specs.declared.parts.FieldDef.{FieldDef}
 use Rattle.c_types.specs.declared.parts.Parts.{Parts}
-use Rattle.c_types.specs.Layout.{greatest, size_of, shape_of, struct_shape, union_shape}
+use Rattle.c_types.specs.declared.shape.Shape.{Shape}
+use Rattle.c_types.specs.Layout.{greatest, Shapes, shape_of, struct_shape, union_shape}
 use Rattle.c_ast.specs.declared.types.TagKind.{TagKind}
 use Rattle.c_ast.specs.declared.types.TagKind.TheVariants.{Struct, Union}
 use Rattle.c_ast.specs.Trees.{Text, Object}
@@ -25,16 +26,16 @@ elements None = 1
 elements (Some n) = n
 
 -- its bytes
-unfoldable pub object_size : Parts → ObjectType → ℕ
-object_size p ty = size_of POINTER_SIZE p ty.element * elements ty.count
+unfoldable pub object_size : Shapes → ObjectType → ℕ
+object_size known ty = (known ty.element).size * elements ty.count
 
 -- of at most 1,048,576 bytes
-unfoldable pub small : Parts → Checked ObjectType → Checked ObjectType
-small p ty = then_do ty (λ t. if nat_lt greatest (object_size p t) then Err (only Size) else Ok t)
+unfoldable pub small : Shapes → Checked ObjectType → Checked ObjectType
+small known ty = then_do ty (λ t. if nat_lt greatest (object_size known t) then Err (only Size) else Ok t)
 
 -- the type of a field or global
 unfoldable pub small_type : Scope → Object → Checked ObjectType
-small_type scope o = small scope.types (object_type scope o)
+small_type scope o = small (shape_of POINTER_SIZE scope.types) (object_type scope o)
 
 -- ---- fields
 
@@ -69,14 +70,14 @@ well_named (o ∷ os) = differ_after [] (o ∷ os)
 
 -- ---- structs and unions
 
-abbrev pub record_size : Parts → TagKind → List FieldDef → ℕ
-record_size p Struct fields = (struct_shape (shape_of POINTER_SIZE p) fields).size
-record_size p Union members = (union_shape (shape_of POINTER_SIZE p) members).size
+abbrev pub record_shape : Shapes → TagKind → List FieldDef → Shape
+record_shape known Struct fields = struct_shape known fields
+record_shape known Union members = union_shape known members
 
 -- of at most 1,048,576 bytes
-unfoldable pub small_record : Parts → TagKind → Checked (List FieldDef) → Checked (List FieldDef)
-small_record p kind fs =
-    then_do fs (λ l. if nat_lt greatest (record_size p kind l) then Err (only Size) else Ok l)
+unfoldable pub small_record : Shapes → TagKind → Checked (List FieldDef) → Checked (List FieldDef)
+small_record known kind fs =
+    then_do fs (λ l. if nat_lt greatest (record_shape known kind l).size then Err (only Size) else Ok l)
 
 -- what is judged, with one more rule
 unfoldable pub with_rule : {A : Type 0} → Bool → Rule → Checked A → Checked A
@@ -86,7 +87,12 @@ with_rule keeps r a = if keeps then a else Err (broken (only r) a)
 abbrev pub few : List Object → Bool
 few os = not (nat_lt 4096 (length os))
 
+-- the fields of a struct or union, of which each is judged
+unfoldable pub judged_fields : Shapes → TagKind → List Object → Checked (List FieldDef) → Checked (List FieldDef)
+judged_fields known kind os fs =
+    with_rule (well_named os) Fields (with_rule (few os) TooMany (small_record known kind fs))
+
 -- the fields of a struct or union, or the rules that they break
 unfoldable pub record_fields : Scope → TagKind → List Object → Checked (List FieldDef)
 record_fields scope kind os =
-    with_rule (well_named os) Fields (with_rule (few os) TooMany (small_record scope.types kind (fields_after scope (Ok []) os)))
+    judged_fields (shape_of POINTER_SIZE scope.types) kind os (fields_after scope (Ok []) os)

@@ -9,3 +9,4 @@ pub mod layout;
 pub mod objects;
 pub mod records;
 pub mod scalars;
+pub mod shaped;

@@ -4,6 +4,7 @@ ghost use Rattle.std.specs.Prelude.{◌≡◌, IfOk};
 ghost use Rattle.c_ast.specs.Trees.{object};
 ghost use Rattle.c_check_decl.specs.Records as spec;
 
+use crate::shaped::Shaped;
 use c_ast::decl::Named;
 use c_check_scope::checked::Checked;
 use c_check_scope::rule::Rule;
@@ -15,24 +16,25 @@ use std::alloc::{AllocError, Global};
 
 /// The bytes of a field or global.
 #[tactic(auto, unfolding(crate::specs::Records::object_size))]
-pub fn object_size(table: &TypeTable, ty: ObjectType) -> u64
-    ensures { result ≡ spec.object_size table.now ty }
+pub fn object_size<S: Shaped>(shapes: &S, ty: ObjectType) -> u64
+    ensures { result ≡ spec.object_size (S.shapes shapes.now) ty }
 {
-    let size = table.size_of(ty.element) as u64;
+    let size = shapes.bytes_of(ty.element) as u64;
     match ty.count {
         None => size,
         Some(count) => size * count as u64,
     }
 }
 
+/// The type of a field or global, where it has at most 1,048,576 bytes.
 #[tactic(auto, unfolding(crate::specs::Records::small))]
-fn small(table: &TypeTable, ty: Checked<ObjectType>) -> Checked<ObjectType>
-    ensures { result ≡ spec.small table.now ty }
+pub fn small<S: Shaped>(shapes: &S, ty: Checked<ObjectType>) -> Checked<ObjectType>
+    ensures { result ≡ spec.small (S.shapes shapes.now) ty }
 {
     match ty {
         Err(rules) => Err(rules),
         Ok(ty) => {
-            if (GREATEST as u64) < object_size(table, ty) {
+            if (GREATEST as u64) < object_size(shapes, ty) {
                 Err(Rules::only(Rule::Size))
             } else {
                 Ok(ty)

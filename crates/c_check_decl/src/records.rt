@@ -6,6 +6,7 @@ ghost use Rattle.c_check_decl.specs.Records as spec;
 
 use crate::layout::record_size;
 use crate::objects::small_type;
+use crate::shaped::Shaped;
 use c_ast::decl::Named;
 use c_ast::types::TagKind;
 use c_check_scope::checked::{Checked, both, broken};
@@ -55,8 +56,9 @@ fn field(
     }
 }
 
+/// Fields with one more at the end.
 #[tactic(auto, unfolding(crate::specs::Records::one_more))]
-fn one_more(
+pub fn one_more(
     done: Checked<Sequence<FieldDef>>,
     field: Checked<FieldDef>,
 ) -> Result<Checked<Sequence<FieldDef>>, AllocError>
@@ -131,17 +133,17 @@ fn with_rule<A: Drop>(keeps: bool, rule: Rule, judged: Checked<A>) -> Checked<A>
 }
 
 #[tactic(auto, unfolding(crate::specs::Records::small_record))]
-fn small_record(
-    table: &TypeTable,
+fn small_record<S: Shaped>(
+    shapes: &S,
     kind: TagKind,
     fields: Checked<Sequence<FieldDef>>,
 ) -> Checked<Sequence<FieldDef>>
-    ensures { result ≡ spec.small_record table.now kind fields }
+    ensures { result ≡ spec.small_record (S.shapes shapes.now) kind fields }
 {
     match fields {
         Err(rules) => Err(rules),
         Ok(fields) => {
-            if (GREATEST as u128) < record_size(table, kind, fields.as_slice()) {
+            if (GREATEST as u128) < record_size(shapes, kind, fields.as_slice()) {
                 Err(Rules::only(Rule::Size))
             } else {
                 Ok(fields)
@@ -150,8 +152,27 @@ fn small_record(
     }
 }
 
+/// The fields of a struct or union, of which each is judged: at least one, at most 4,096, no name twice, and of at most
+/// 1,048,576 bytes together, which is judged where each field has a type.
+#[tactic(auto, unfolding(crate::specs::Records::judged_fields))]
+pub fn judged_fields<S: Shaped>(
+    alloc: Global,
+    shapes: &S,
+    kind: TagKind,
+    fields: &[Named],
+    judged: Checked<Sequence<FieldDef>>,
+) -> Result<Checked<Sequence<FieldDef>>, AllocError>
+    ensures { IfOk result (λ all. all ≡ spec.judged_fields (S.shapes shapes.now) kind (objects fields.now) judged) }
+{
+    let well_named = well_named(alloc, fields)?;
+    let judged = small_record(shapes, kind, judged);
+    let judged = with_rule(few(fields), Rule::TooMany, judged);
+    Ok(with_rule(well_named, Rule::Fields, judged))
+}
+
 /// The fields of a struct or union: at least one, at most 4,096, no name twice, each of at most 1,048,576 bytes, and
-/// so the whole, which is judged where each field has a type; or the rules that are broken. A field's name has its number in the text, or 0 where it isn't there.
+/// so the whole, which is judged where each field has a type; or the rules that are broken. A field's name has its
+/// number in the text, or 0 where it isn't there.
 #[tactic(auto, unfolding(crate::specs::Records::record_fields))]
 pub fn record_fields(
     alloc: Global,
@@ -163,9 +184,6 @@ pub fn record_fields(
     requires { table.now ≡ scope.now.types }
     ensures { IfOk result (λ judged. judged ≡ spec.record_fields scope.now kind (objects fields.now)) }
 {
-    let well_named = well_named(alloc, fields)?;
     let judged = fields_of(alloc, scope, table, fields)?;
-    let judged = small_record(table, kind, judged);
-    let judged = with_rule(few(fields), Rule::TooMany, judged);
-    Ok(with_rule(well_named, Rule::Fields, judged))
+    judged_fields(alloc, table, kind, fields, judged)
 }

@@ -84,7 +84,7 @@ fn same_fields(a: &[FieldDef], b: &[FieldDef]) -> bool
     }
 }
 
-fn nameless(types: &Types) -> FieldDef
+pub fn nameless(types: &Types) -> FieldDef
     ensures { result ≡ spec.nameless types.now }
 {
     FieldDef {

@@ -1,0 +1,4 @@
+pub mod Drafts
+pub mod Signatures
+pub mod Records
+pub mod Tables

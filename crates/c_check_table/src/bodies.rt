@@ -1,107 +1,148 @@
 // The signatures of a text.
 
-use crate::signatures::{Known, add_param, add_signature};
+ghost use Rattle.std.specs.Prelude.{◌≡◌, OnOk};
+ghost use Rattle.c_ast.specs.Trees.{statement, statements, object as object_tree, objects, parameters, declaration, declarations};
+ghost use Rattle.c_check_table.specs.Signatures as spec;
+
+use crate::draft::Draft;
+use crate::signatures::{add_heading, add_param};
 use c_ast::decl::{Decl, Named};
-use c_ast::stmt::Stmt;
-use c_check_outline::outline::Outline;
+use c_ast::stmt::{Param, Stmt};
+use c_ast::types::TypeName;
+use c_check_scope::scope::Scope;
 use std::alloc::{AllocError, Global};
 
 /// Adds those of the locals of a statement.
 #[cycle(statement)]
+#[tactic(auto, using(c_ast::proofs::Views::views))]
 fn add_in_statement(
-    known: &mut Known,
+    draft: &mut Draft,
     alloc: Global,
-    outline: &Outline,
-    statement: &Stmt,
-) -> Result<(), AllocError> {
-    match statement {
+    scope: &Scope,
+    stmt: &Stmt,
+) -> Result<(), AllocError>
+    ensures { OnOk result (draft.new ≡ spec.in_statement scope.now draft.old (statement stmt.now)) }
+{
+    match stmt {
         Stmt::Local(param, _) => {
-            add_param(known, alloc, outline, param)?;
+            let _ = add_param(draft, alloc, scope, param)?;
             Ok(())
         }
-        Stmt::Block(statements) => {
-            add_in_statements(known, alloc, outline, statements.as_slice())
+        Stmt::Block(body) => add_in_statements(draft, alloc, scope, body.as_slice()),
+        Stmt::If(_, body) => add_in_statement(draft, alloc, scope, body.get()),
+        Stmt::IfElse(_, then, otherwise) => {
+            add_in_statement(draft, alloc, scope, then.get())?;
+            add_in_statement(draft, alloc, scope, otherwise.get())
         }
-        Stmt::If(_, body) => add_in_statement(known, alloc, outline, body.get()),
-        Stmt::IfElse(_, first, second) => {
-            add_in_statement(known, alloc, outline, first.get())?;
-            add_in_statement(known, alloc, outline, second.get())
-        }
-        Stmt::While(_, body) => add_in_statement(known, alloc, outline, body.get()),
-        Stmt::For(_, _, _, body) => add_in_statement(known, alloc, outline, body.get()),
-        _ => Ok(()),
+        Stmt::While(_, body) => add_in_statement(draft, alloc, scope, body.get()),
+        Stmt::For(_, _, _, body) => add_in_statement(draft, alloc, scope, body.get()),
+        Stmt::Empty
+        | Stmt::Assign(_, _)
+        | Stmt::Call(_, _)
+        | Stmt::Break
+        | Stmt::Continue
+        | Stmt::Return(_) => Ok(()),
     }
 }
 
 #[cycle(statement)]
 fn add_in_statements(
-    known: &mut Known,
+    draft: &mut Draft,
     alloc: Global,
-    outline: &Outline,
-    statements: &[Stmt],
-) -> Result<(), AllocError> {
-    for statement in statements {
-        add_in_statement(known, alloc, outline, statement)?;
+    scope: &Scope,
+    stmts: &[Stmt],
+) -> Result<(), AllocError>
+    ensures { OnOk result (draft.new ≡ spec.in_statements scope.now draft.old (statements stmts.now)) }
+{
+    for stmt in stmts {
+        add_in_statement(draft, alloc, scope, stmt)?;
     }
     Ok(())
 }
 
-fn add_of_object(
-    known: &mut Known,
+fn add_in_object(
+    draft: &mut Draft,
     alloc: Global,
-    outline: &Outline,
-    object: &Named,
-) -> Result<(), AllocError> {
-    match object {
+    scope: &Scope,
+    named: &Named,
+) -> Result<(), AllocError>
+    ensures { OnOk result (draft.new ≡ spec.in_object scope.now draft.old (object_tree named.now)) }
+{
+    match named {
         Named::Object(_, _, _) => Ok(()),
         Named::Function(answer, _, _, params) => {
-            add_signature(known, alloc, outline, answer, params.as_slice())?;
+            let _ = add_heading(draft, alloc, scope, answer, params.as_slice())?;
             Ok(())
         }
     }
 }
 
-fn add_of_fields(
-    known: &mut Known,
+fn add_in_fields(
+    draft: &mut Draft,
     alloc: Global,
-    outline: &Outline,
+    scope: &Scope,
     fields: &[Named],
-) -> Result<(), AllocError> {
+) -> Result<(), AllocError>
+    ensures { OnOk result (draft.new ≡ spec.in_objects scope.now draft.old (objects fields.now)) }
+{
     for field in fields {
-        add_of_object(known, alloc, outline, field)?;
+        add_in_object(draft, alloc, scope, field)?;
     }
     Ok(())
 }
 
-fn add_of_declaration(
-    known: &mut Known,
+fn add_in_function(
+    draft: &mut Draft,
     alloc: Global,
-    outline: &Outline,
+    scope: &Scope,
+    answer: &TypeName,
+    params: &[Param],
+    body: &[Stmt],
+) -> Result<(), AllocError>
+    ensures { OnOk result (draft.new ≡ spec.in_statements scope.now (spec.heading_in scope.now draft.old answer.now (parameters params.now)).0 (statements body.now)) }
+{
+    let _ = add_heading(draft, alloc, scope, answer, params)?;
+    add_in_statements(draft, alloc, scope, body)
+}
+
+#[tactic(auto, unfolding(crate::specs::Signatures::in_declaration))]
+fn add_in_declaration(
+    draft: &mut Draft,
+    alloc: Global,
+    scope: &Scope,
     decl: &Decl,
-) -> Result<(), AllocError> {
+) -> Result<(), AllocError>
+    ensures { OnOk result (draft.new ≡ spec.in_declaration scope.now draft.old (declaration decl.now)) }
+{
     match decl {
-        Decl::Record(_, _, fields) => add_of_fields(known, alloc, outline, fields.as_slice()),
-        Decl::Global(object, _) => add_of_object(known, alloc, outline, object),
+        Decl::Record(_, _, fields) => add_in_fields(draft, alloc, scope, fields.as_slice()),
+        Decl::Global(named, _) => add_in_object(draft, alloc, scope, named),
         Decl::Prototype(answer, _, params) => {
-            add_signature(known, alloc, outline, answer, params.as_slice())?;
+            let _ = add_heading(draft, alloc, scope, answer, params.as_slice())?;
             Ok(())
         }
-        Decl::Function(answer, _, params, body) => {
-            add_signature(known, alloc, outline, answer, params.as_slice())?;
-            add_in_statements(known, alloc, outline, body.as_slice())
-        }
+        Decl::Function(answer, _, params, body) => add_in_function(
+            draft,
+            alloc,
+            scope,
+            answer,
+            params.as_slice(),
+            body.as_slice(),
+        ),
     }
 }
 
 /// Adds the signature of each prototype, definition and function pointer of a text, with their types.
 pub fn add_signatures(
-    known: &mut Known,
+    draft: &mut Draft,
     alloc: Global,
-    outline: &Outline,
-    declarations: &[Decl],
-) -> Result<(), AllocError> {
-    for decl in declarations {
-        add_of_declaration(known, alloc, outline, decl)?;
+    scope: &Scope,
+    decls: &[Decl],
+) -> Result<(), AllocError>
+    ensures { OnOk result (draft.new ≡ spec.in_text scope.now draft.old (declarations decls.now)) }
+{
+    for decl in decls {
+        add_in_declaration(draft, alloc, scope, decl)?;
     }
     Ok(())
 }

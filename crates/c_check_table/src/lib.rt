@@ -1,13 +1,12 @@
-//! Makes the table of types of a text of the C subset. No rule is judged here: a declaration that breaks one is left
-//! out, or stands as a struct or union with a field that has no name.
+//! The table of types that a text of the C subset asks for. No rule is judged here: what breaks one adds nothing, and a
+//! struct or union that breaks one has a field that no text can name.
 #![tactic(auto)]
 
-mod bodies;
-mod extents;
-mod fields;
+pub mod bodies;
+pub mod draft;
 pub mod make;
-mod objects;
-mod records;
-mod signatures;
-mod types;
-mod written;
+pub mod objects;
+pub mod records;
+pub mod signatures;
+pub mod start;
+pub mod types;

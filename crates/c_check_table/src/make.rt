@@ -1,56 +1,28 @@
 // The table of a text.
 
+ghost use Rattle.std.specs.Prelude.{◌≡◌, IfOk, OnOk, MatchOption};
+ghost use Rattle.c_ast.specs.Trees.{declarations};
+ghost use Rattle.c_types.specs.declared.parts.TheConstants.{POINTER_SIZE};
+ghost use Rattle.c_types.specs.Refusal.{IsBuilt};
+ghost use Rattle.c_check_table.specs.Tables as spec;
+
 use crate::bodies::add_signatures;
-use crate::fields::{add_message, add_record};
-use crate::objects::add_array;
-use crate::records::Records;
-use crate::signatures::Known;
+use crate::draft::{Draft, parts_of};
+use crate::records::{add_message, add_records};
+use crate::start::{base, base_parts};
 use c_ast::decl::Decl;
+use c_check_known::start::start_scope;
 use c_check_outline::outline::Outline;
+use c_check_outline::texts::outline;
+use c_check_scope::scope::Scope;
 use c_types::{BuildError, Parts, TypeTable, well_numbered};
 use std::alloc::{AllocError, Global};
 
-/// Adds the structs, the unions and the types of arrays.
-fn add_objects(
-    known: &mut Known,
-    alloc: Global,
-    outline: &Outline,
-    records: &mut Records,
-    declarations: &[Decl],
-) -> Result<(), AllocError> {
-    for decl in declarations {
-        match decl {
-            Decl::Record(kind, name, fields) => {
-                add_record(
-                    known,
-                    alloc,
-                    outline,
-                    records,
-                    *kind,
-                    name,
-                    fields.as_slice(),
-                )?;
-            }
-            Decl::Global(object, _) => add_array(known, alloc, outline, records, object)?,
-            _ => {}
-        }
-    }
-    Ok(())
-}
-
-fn parts_of(alloc: Global, known: &Known, records: Records) -> Result<Parts, AllocError> {
-    let types = known.types.copy(alloc)?;
-    let signatures = known.copy_signatures(alloc)?;
-    let (structs, unions) = records.into_lists();
-    Ok(Parts {
-        types,
-        structs,
-        unions,
-        signatures,
-    })
-}
-
-fn built(alloc: Global, parts: Parts) -> Result<Option<TypeTable>, AllocError> {
+/// The table of these parts; none where they are no table.
+#[tactic(auto, using(crate::proofs::Refused::ill_numbered, crate::proofs::Refused::refused))]
+fn built(alloc: Global, parts: Parts) -> Result<Option<TypeTable>, AllocError>
+    ensures { IfOk result (λ table. MatchOption table (IsBuilt POINTER_SIZE parts → ⊥) (λ table. table ≡ parts)) }
+{
     if !well_numbered(&parts) {
         return Ok(None);
     }
@@ -61,19 +33,44 @@ fn built(alloc: Global, parts: Parts) -> Result<Option<TypeTable>, AllocError> {
     }
 }
 
-/// The table of types of a text whose outline is given: the integer types, `void *`, each struct and union, the function
-/// pointer type of each signature, and each pointer type with at most nine stars over one of these or over `void`; and
-/// the arrays that fields and globals are. None where no table can be made.
-pub fn make_table(
-    alloc: Global,
-    declarations: &[Decl],
-    outline: &Outline,
-) -> Result<Option<TypeTable>, AllocError> {
-    let mut known = Known::new(alloc);
-    let mut records = Records::new(alloc);
-    known.types.add_bases(outline)?;
-    add_signatures(&mut known, alloc, outline, declarations)?;
-    add_message(&mut known, alloc, outline, &mut records)?;
-    add_objects(&mut known, alloc, outline, &mut records, declarations)?;
-    built(alloc, parts_of(alloc, &known, records)?)
+#[tactic(auto, unfolding(crate::specs::Tables::draft_in))]
+fn add_text(draft: &mut Draft, alloc: Global, scope: Scope, text: &[Decl]) -> Result<(), AllocError>
+    ensures { OnOk result (draft.new ≡ spec.draft_in scope draft.old (declarations text.now)) }
+{
+    add_signatures(draft, alloc, &scope, text)?;
+    add_message(draft, alloc)?;
+    add_records(draft, alloc, scope, text)
+}
+
+/// The scope in which types are looked up; none where there is no table that has only what each begins with.
+fn base_scope(alloc: Global, draft: &Draft, outline: Outline) -> Result<Option<Scope>, AllocError>
+    requires { draft.now ≡ spec.base outline }
+    ensures { IfOk result (λ scope. MatchOption scope (IsBuilt POINTER_SIZE (spec.base_parts outline) → ⊥) (λ scope. scope ≡ spec.base_scope outline)) }
+{
+    let parts = base_parts(alloc, draft, &outline)?;
+    match built(alloc, parts)? {
+        None => Ok(None),
+        Some(table) => {
+            let scope = start_scope(alloc, &table, outline.names, outline.tags)?;
+            Ok(Some(scope))
+        }
+    }
+}
+
+/// The table of the types of a text: the integer types, `void *`, the structs and unions, and the function pointer type
+/// of each signature along the text, each with the pointer types that have at most nine stars over one of these or over
+/// `void`; and then `int[6]` and the arrays along the text. None where these are no table, or what each table begins with
+/// is none.
+#[tactic(auto, unfolding(crate::specs::Tables::types_of))]
+pub fn make_table(alloc: Global, text: &[Decl]) -> Result<Option<TypeTable>, AllocError>
+    ensures { IfOk result (λ table. MatchOption table (spec.IsNoTable (declarations text.now)) (λ table. table ≡ spec.types_of (declarations text.now))) }
+{
+    let outline = outline(alloc, text)?;
+    let mut draft = base(alloc, &outline)?;
+    let Some(scope) = base_scope(alloc, &draft, outline)? else {
+        return Ok(None);
+    };
+    add_text(&mut draft, alloc, scope, text)?;
+    let parts = parts_of(alloc, draft)?;
+    built(alloc, parts)
 }

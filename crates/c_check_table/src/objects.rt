@@ -1,126 +1,90 @@
 // What fields and globals hold.
 
-use crate::extents::{Extent, INT, POINTER, array_extent, int_extent};
-use crate::records::Records;
-use crate::signatures::{Known, add_signature};
-use crate::types::TypeList;
-use crate::written::{scalar, tag_of};
+ghost use Rattle.std.specs.Prelude.{◌≡◌, IfOk, OnOk};
+ghost use Rattle.c_ast.specs.Trees.{object as object_tree};
+ghost use Rattle.c_check_decl.specs.Records as decl_records;
+ghost use Rattle.c_check_table.specs.Drafts as drafts;
+ghost use Rattle.c_check_table.specs.Records as spec;
+
+use crate::draft::Draft;
+use crate::signatures::add_heading;
 use c_ast::decl::Named;
-use c_ast::token::Number;
-use c_ast::types::{BaseType, TypeName};
-use c_check_outline::outline::Outline;
-use c_types::{GREATEST, Ty, TyId};
+use c_check_decl::objects::{object_size, small};
+use c_check_expr::typing::named;
+use c_check_scope::checked::Checked;
+use c_check_scope::numbers::as_number;
+use c_check_scope::scope::Scope;
+use c_check_type::objects::{ObjectType, with_length};
+use c_types::{Shape, Ty, TyId};
 use std::alloc::{AllocError, Global};
 
-/// What a field or global holds.
-#[derive(Clone, Copy, Debug, PartialEq, Eq)]
-pub struct Object {
-    /// The number of its type, or of the type of its elements where it is an array.
-    pub element: TyId,
-    /// How many elements it has, where it is an array.
-    pub count: Option<u32>,
-}
-
-/// The number of the type of a value: a scalar, or a struct or union that is declared so far.
-fn value_type(
-    types: &TypeList,
-    outline: &Outline,
-    records: &Records,
-    name: &TypeName,
-) -> Option<TyId> {
-    if name.stars == 0 {
-        if let BaseType::Tagged(kind, tag) = &name.base {
-            let number = tag_of(outline, *kind, tag)?;
-            return types.find(records.find(*kind, number)?);
-        }
-    }
-    scalar(types, outline, name)
-}
-
-/// One to 1,048,576 elements.
-fn with_length(ty: Option<TyId>, length: Option<Number>) -> Option<Object> {
-    let element = ty?;
-    let Some(length) = length else {
-        return Some(Object {
-            element,
-            count: None,
-        });
-    };
-    if length.value == 0 || length.value > GREATEST as u64 {
-        return None;
-    }
-    Some(Object {
-        element,
-        count: Some(length.value as u32),
-    })
-}
-
-/// What a field or global holds; none where it breaks a rule.
-pub fn object_of(
-    known: &mut Known,
+/// Adds the signatures in the type of a field or global, and gives this type.
+#[tactic(auto, unfolding(crate::specs::Records::object_in))]
+fn add_object(
+    draft: &mut Draft,
     alloc: Global,
-    outline: &Outline,
-    records: &Records,
+    scope: &Scope,
     object: &Named,
-) -> Result<Option<Object>, AllocError> {
+) -> Result<Checked<ObjectType>, AllocError>
+    ensures draft { OnOk result (draft.new ≡ (spec.object_in scope.now draft.old (object_tree object.now)).0) }
+    ensures ty { IfOk result (λ ty. ty ≡ (spec.object_in scope.now draft.old (object_tree object.now)).1) }
+{
     match object {
-        Named::Object(name, _, length) => {
-            let ty = value_type(&known.types, outline, records, name);
-            Ok(with_length(ty, *length))
-        }
+        Named::Object(name, _, length) => Ok(with_length(named(scope, name), *length)),
         Named::Function(answer, _, length, params) => {
-            let ty = add_signature(known, alloc, outline, answer, params.as_slice())?;
+            let ty = add_heading(draft, alloc, scope, answer, params.as_slice())?;
             Ok(with_length(ty, *length))
         }
     }
 }
 
-fn element_extent(types: &TypeList, records: &Records, number: TyId) -> Extent {
-    match types.get(number) {
-        Some(Ty::Int(kind)) => int_extent(kind),
-        Some(Ty::Struct(number)) => records.struct_extent(number),
-        Some(Ty::Union(number)) => records.union_extent(number),
-        Some(_) => POINTER,
-        None => INT,
-    }
+fn shape_of_array(draft: &Draft, ty: ObjectType) -> Result<Shape, AllocError>
+    ensures size { IfOk result (λ s. s.size ≡ decl_records.object_size (drafts.shapes draft.now) ty) }
+    ensures align { IfOk result (λ s. s.align ≡ (drafts.shapes draft.now ty.element).align) }
+{
+    let size = as_number(object_size(draft, ty) as usize)?;
+    let align = draft.shape_of(ty.element).align;
+    Ok(Shape { size, align })
 }
 
-pub fn object_extent(types: &TypeList, records: &Records, object: Object) -> Extent {
-    let element = element_extent(types, records, object.element);
-    match object.count {
-        None => element,
-        Some(count) => array_extent(element, count),
-    }
-}
-
-/// Whether it takes at most 1,048,576 bytes.
-pub fn fits(extent: Extent) -> bool {
-    extent.size <= GREATEST as u64
-}
-
-/// The number of the type of an object, which is added if it isn't there.
-pub fn add_object(types: &mut TypeList, object: Object) -> Result<TyId, AllocError> {
-    match object.count {
-        None => Ok(object.element),
-        Some(count) => types.add(Ty::Array(object.element, count)),
-    }
-}
-
-/// Adds the type of a field or global that is an array and keeps the rules by itself.
-pub fn add_array(
-    known: &mut Known,
-    alloc: Global,
-    outline: &Outline,
-    records: &Records,
-    object: &Named,
-) -> Result<(), AllocError> {
-    match object_of(known, alloc, outline, records, object)? {
-        None => Ok(()),
-        Some(object) => {
-            if fits(object_extent(&known.types, records, object)) {
-                add_object(&mut known.types, object)?;
-            }
-            Ok(())
+/// Adds the type of a field or global, if it is an array, and gives its number.
+#[tactic(auto, unfolding(crate::specs::Records::with_array, crate::specs::Records::object_place))]
+pub fn add_array(draft: &mut Draft, ty: ObjectType) -> Result<TyId, AllocError>
+    ensures draft { OnOk result (draft.new ≡ spec.with_array draft.old ty) }
+    ensures number { IfOk result (λ number. number ≡ spec.object_place draft.old ty) }
+{
+    match ty.count {
+        None => Ok(ty.element),
+        Some(count) => {
+            let shape = shape_of_array(draft, ty)?;
+            draft.add(Ty::Array(ty.element, count), shape)
         }
     }
+}
+
+#[tactic(auto, unfolding(crate::specs::Records::array_in))]
+fn add_judged(draft: &mut Draft, ty: Checked<ObjectType>) -> Result<Checked<TyId>, AllocError>
+    ensures draft { OnOk result (draft.new ≡ (spec.array_in draft.old ty).0) }
+    ensures number { IfOk result (λ number. number ≡ (spec.array_in draft.old ty).1) }
+{
+    match ty {
+        Err(rules) => Ok(Err(rules)),
+        Ok(ty) => Ok(Ok(add_array(draft, ty)?)),
+    }
+}
+
+/// Adds the types in that of a field or global, and gives its number.
+#[tactic(auto, unfolding(crate::specs::Records::type_in))]
+pub fn add_type(
+    draft: &mut Draft,
+    alloc: Global,
+    scope: &Scope,
+    object: &Named,
+) -> Result<Checked<TyId>, AllocError>
+    ensures draft { OnOk result (draft.new ≡ (spec.type_in scope.now draft.old (object_tree object.now)).0) }
+    ensures number { IfOk result (λ number. number ≡ (spec.type_in scope.now draft.old (object_tree object.now)).1) }
+{
+    let ty = add_object(draft, alloc, scope, object)?;
+    let ty = small(draft, ty);
+    add_judged(draft, ty)
 }

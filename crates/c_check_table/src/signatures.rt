@@ -1,129 +1,117 @@
 // Signatures, each once, and the types of pointers to functions.
 
-use crate::types::{GREATEST_STARS, TypeList};
-use crate::written::{is_void, scalar};
+ghost use Rattle.std.specs.Prelude.{◌≡◌, IfOk, OnOk, [], Ok, None};
+ghost use Rattle.c_ast.specs.Trees.{parameter, parameters};
+ghost use Rattle.c_check_table.specs.Signatures as spec;
+
+use crate::draft::{Draft, POINTER, push};
 use c_ast::stmt::Param;
 use c_ast::types::TypeName;
-use c_check_outline::outline::Outline;
+use c_check_scope::checked::Checked;
 use c_check_scope::numbers::as_number;
+use c_check_scope::scope::Scope;
+use c_check_type::params::{made_signature, one_more, param_type, result_type};
+use c_check_type::signatures::place_of;
 use c_types::{Sequence, Signature, Ty, TyId};
-use indexmap::IndexSet;
 use std::alloc::{AllocError, Global};
 
-/// The parameters that a function may have.
-pub const GREATEST_PARAMS: usize = 64;
+/// The stars that a pointer type of the table may have over a type that is none.
+pub const GREATEST_STARS: u8 = 9;
 
-/// A signature by which it is found.
-#[derive(PartialEq, Eq, Hash, Drop)]
-struct Key {
-    answer: Option<TyId>,
-    params: Vec<TyId>,
+fn add_next(draft: &mut Draft, alloc: Global, signature: Signature) -> Result<TyId, AllocError>
+    ensures draft { OnOk result (draft.new ≡ (spec.signed_at draft.old signature None).0) }
+    ensures ty { IfOk result (λ ty. ty ≡ (spec.signed_at draft.old signature None).1) }
+{
+    let number = as_number(draft.signatures.as_slice().len())?;
+    push(&mut draft.signatures, alloc, signature)?;
+    draft.add_with_pointers(GREATEST_STARS, Ty::Function(number), POINTER)
 }
 
-/// The types and signatures of a text that are known so far.
-#[derive(Drop)]
-pub struct Known {
-    pub types: TypeList,
-    signatures: IndexSet<Key>,
-}
-
-impl Known {
-    /// It takes no memory.
-    pub fn new(alloc: Global) -> Known {
-        Known {
-            types: TypeList::new(alloc),
-            signatures: IndexSet::new(alloc),
+/// Adds a signature, if it isn't there, with the type of pointers to its functions, and gives the number of this type.
+#[tactic(auto, unfolding(crate::specs::Signatures::signed))]
+fn add_signature(draft: &mut Draft, alloc: Global, signature: Signature) -> Result<TyId, AllocError>
+    ensures draft { OnOk result (draft.new ≡ (spec.signed draft.old signature).0) }
+    ensures ty { IfOk result (λ ty. ty ≡ (spec.signed draft.old signature).1) }
+{
+    match place_of(draft.signatures.as_slice(), &signature) {
+        Some(number) => {
+            let number = as_number(number)?;
+            as_number(draft.types.place_of(Ty::Function(number)))
         }
-    }
-
-    /// Adds a signature with the type of pointers to its functions, and gives the number of this type.
-    fn add(&mut self, answer: Option<TyId>, params: Vec<TyId>) -> Result<TyId, AllocError> {
-        let (number, _) = self.signatures.insert_full(Key { answer, params })?;
-        let number = as_number(number)?;
-        self.types
-            .add_with_pointers(Ty::Function(number), GREATEST_STARS)
-    }
-
-    pub fn copy_signatures(&self, alloc: Global) -> Result<Sequence<Signature>, AllocError> {
-        let mut list = Vec::new(alloc);
-        for key in self.signatures.as_slice() {
-            list.push(Signature {
-                result: key.answer,
-                params: Sequence::from_vec(Vec::from_slice(alloc, key.params.as_slice())?),
-            })?;
-        }
-        Ok(Sequence::from_vec(list))
+        None => add_next(draft, alloc, signature),
     }
 }
 
-/// The type of a result.
-enum Answer {
-    Void,
-    Value(TyId),
-    /// What is written breaks a rule.
-    Broken,
-}
-
-fn answer_of(known: &Known, outline: &Outline, name: &TypeName) -> Answer {
-    if is_void(name) {
-        return Answer::Void;
-    }
-    match scalar(&known.types, outline, name) {
-        None => Answer::Broken,
-        Some(ty) => Answer::Value(ty),
-    }
-}
-
-/// The number of the type of a parameter or local. Signatures in it are added. None where it breaks a rule.
-#[cycle(param)]
-pub fn add_param(
-    known: &mut Known,
+#[tactic(auto, unfolding(crate::specs::Signatures::pointer_in))]
+fn add_pointer(
+    draft: &mut Draft,
     alloc: Global,
-    outline: &Outline,
+    signature: Checked<Signature>,
+) -> Result<Checked<TyId>, AllocError>
+    ensures draft { OnOk result (draft.new ≡ (spec.pointer_in draft.old signature).0) }
+    ensures ty { IfOk result (λ ty. ty ≡ (spec.pointer_in draft.old signature).1) }
+{
+    match signature {
+        Err(rules) => Ok(Err(rules)),
+        Ok(signature) => Ok(Ok(add_signature(draft, alloc, signature)?)),
+    }
+}
+
+/// Adds the signatures in the type of a parameter or local, and gives the number of this type.
+#[cycle(param)]
+#[tactic(auto, using(c_ast::proofs::Views::views))]
+pub fn add_param(
+    draft: &mut Draft,
+    alloc: Global,
+    scope: &Scope,
     param: &Param,
-) -> Result<Option<TyId>, AllocError> {
+) -> Result<Checked<TyId>, AllocError>
+    ensures draft { OnOk result (draft.new ≡ (spec.parameter_in scope.now draft.old (parameter param.now)).0) }
+    ensures ty { IfOk result (λ ty. ty ≡ (spec.parameter_in scope.now draft.old (parameter param.now)).1) }
+{
     match param {
-        Param::Object(name, _) => Ok(scalar(&known.types, outline, name)),
+        Param::Object(_, _) => param_type(alloc, scope, param),
         Param::Function(answer, _, params) => {
-            add_signature(known, alloc, outline, answer, params.as_slice())
+            add_heading(draft, alloc, scope, answer, params.as_slice())
         }
     }
 }
 
 #[cycle(param)]
 fn add_params(
-    known: &mut Known,
+    draft: &mut Draft,
     alloc: Global,
-    outline: &Outline,
+    scope: &Scope,
     params: &[Param],
-) -> Result<Option<Vec<TyId>>, AllocError> {
-    let mut types = Vec::new(alloc);
-    let mut are_kept = params.len() <= GREATEST_PARAMS;
+) -> Result<Checked<Sequence<TyId>>, AllocError>
+    ensures draft { OnOk result (draft.new ≡ (spec.parameters_in scope.now draft.old (Ok []) (parameters params.now)).0) }
+    ensures types { IfOk result (λ types. types ≡ (spec.parameters_in scope.now draft.old (Ok []) (parameters params.now)).1) }
+{
+    let mut types: Checked<Sequence<TyId>> = Ok(Sequence::from_vec(Vec::new(alloc)));
     for param in params {
-        match add_param(known, alloc, outline, param)? {
-            None => are_kept = false,
-            Some(ty) => types.push(ty)?,
-        }
+        let ty = add_param(draft, alloc, scope, param)?;
+        types = one_more(types, ty)?;
     }
-    if are_kept { Ok(Some(types)) } else { Ok(None) }
+    Ok(types)
 }
 
-/// Adds a function's signature and those in it, and gives the number of the type of pointers to such functions. None
-/// where the signature breaks a rule, as an unknown tag, or a parameter that is no scalar.
+/// Adds a function's signature and those in its parameters, and gives the number of the type of pointers to such
+/// functions. A signature that breaks a rule adds nothing.
 #[cycle(param)]
-pub fn add_signature(
-    known: &mut Known,
+pub fn add_heading(
+    draft: &mut Draft,
     alloc: Global,
-    outline: &Outline,
+    scope: &Scope,
     answer: &TypeName,
     params: &[Param],
-) -> Result<Option<TyId>, AllocError> {
-    let Some(params) = add_params(known, alloc, outline, params)? else {
-        return Ok(None);
-    };
-    match answer_of(known, outline, answer) {
-        Answer::Broken => Ok(None),
-        Answer::Void => Ok(Some(known.add(None, params)?)),
-        Answer::Value(ty) => Ok(Some(known.add(Some(ty), params)?)),
-    }
+) -> Result<Checked<TyId>, AllocError>
+    ensures draft { OnOk result (draft.new ≡ (spec.heading_in scope.now draft.old answer.now (parameters params.now)).0) }
+    ensures ty { IfOk result (λ ty. ty ≡ (spec.heading_in scope.now draft.old answer.now (parameters params.now)).1) }
+{
+    let params = add_params(draft, alloc, scope, params)?;
+    add_pointer(
+        draft,
+        alloc,
+        made_signature(result_type(scope, answer), params),
+    )
 }

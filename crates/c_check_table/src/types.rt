@@ -1,24 +1,14 @@
 // Types, each once.
 
-use c_check_outline::outline::Outline;
-use c_check_scope::numbers::as_number;
-use c_types::{IntKind, Sequence, Ty, TyId};
+ghost use Rattle.std.specs.Prelude.{◌≡◌, ◌++◌, ◌∷◌, [], IfOk, OnErr, length, not, slice_get, if◌then◌else◌};
+ghost use Rattle.std.specs.List.{list_any};
+ghost use Rattle.c_judge.specs.Numbers.{same_type};
+ghost use Rattle.c_check_table.specs.Drafts.{place_of};
+
+use c_types::{Sequence, Ty, TyId};
 use indexmap::IndexSet;
 use std::alloc::{AllocError, Global};
-
-/// The stars that a pointer type of the table may have.
-pub const GREATEST_STARS: u8 = 9;
-
-const KINDS: [IntKind; 8] = [
-    IntKind::Char,
-    IntKind::UChar,
-    IntKind::Short,
-    IntKind::UShort,
-    IntKind::Int,
-    IntKind::UInt,
-    IntKind::LongLong,
-    IntKind::ULongLong,
-];
+use std::marker::Model;
 
 /// Types numbered by first appearance, each found without a search over all.
 #[derive(Drop)]
@@ -26,68 +16,61 @@ pub struct TypeList {
     set: IndexSet<Ty>,
 }
 
+impl Model for TypeList {
+    ghost use Rattle.std.specs.Prelude.{List};
+    ghost use Rattle.c_types.specs.declared.parts.Ty.{Ty};
+
+    ghost Value = { List Ty };
+
+    ghost view = { λ t. t.set.keys };
+}
+
 impl TypeList {
     /// It takes no memory.
-    pub fn new(alloc: Global) -> TypeList {
+    pub fn new(alloc: Global) -> TypeList
+        ensures { result ≡ [] }
+    {
         TypeList {
             set: IndexSet::new(alloc),
         }
     }
 
-    /// Adds a type at the end, if it isn't among them, and gives its number. Want of memory where there are too many.
-    pub fn add(&mut self, ty: Ty) -> Result<TyId, AllocError> {
-        let (number, _) = self.set.insert_full(ty)?;
-        as_number(number)
-    }
-
-    /// Adds a type with the pointers that have at most so many stars over it, and gives its number.
-    pub fn add_with_pointers(&mut self, ty: Ty, stars: u8) -> Result<TyId, AllocError> {
-        let number = self.add(ty)?;
-        let mut pointed = number;
-        for _ in 0..stars {
-            pointed = self.add(Ty::Pointer(pointed))?;
-        }
-        Ok(number)
-    }
-
-    /// Adds what every table has: the integer types, `void *`, each struct and each union, with their pointers.
-    pub fn add_bases(&mut self, outline: &Outline) -> Result<(), AllocError> {
-        for kind in KINDS {
-            self.add_with_pointers(Ty::Int(kind), GREATEST_STARS)?;
-        }
-        self.add_with_pointers(Ty::VoidPointer, GREATEST_STARS - 1)?;
-        for number in 0..outline.structs {
-            self.add_with_pointers(Ty::Struct(number), GREATEST_STARS)?;
-        }
-        for number in 0..outline.unions {
-            self.add_with_pointers(Ty::Union(number), GREATEST_STARS)?;
-        }
-        Ok(())
-    }
-
-    /// The type of a number.
-    pub fn get(&self, number: TyId) -> Option<Ty> {
+    /// The type of a number; none where there is no such type.
+    pub fn get(&self, number: TyId) -> Option<Ty>
+        ensures { result ≡ slice_get self.now number }
+    {
         match self.set.get_index(number as usize) {
             None => None,
             Some(ty) => Some(*ty),
         }
     }
 
-    /// The number of a type.
-    pub fn find(&self, ty: Ty) -> Option<TyId> {
-        as_number(self.set.get_index_of(&ty)?).ok()
-    }
-
-    /// The number of a type under so many stars.
-    pub fn find_starred(&self, ty: Ty, stars: u8) -> Option<TyId> {
-        let mut number = self.find(ty)?;
-        for _ in 0..stars {
-            number = self.find(Ty::Pointer(number))?;
+    /// The number of a type; where it isn't there, the number that it would have.
+    #[tactic(auto, using(crate::proofs::Places::at_end))]
+    pub fn place_of(&self, ty: Ty) -> usize
+        ensures { result ≡ place_of self.now ty }
+    {
+        match self.set.get_index_of(&ty) {
+            None => self.set.len(),
+            Some(number) => number,
         }
-        Some(number)
     }
 
-    pub fn copy(&self, alloc: Global) -> Result<Sequence<Ty>, AllocError> {
+    /// Adds a type at the end, if it isn't there. Gives its number, and whether it is new.
+    pub fn add(&mut self, ty: Ty) -> Result<(usize, bool), AllocError>
+        ensures types { IfOk result (λ added. self.new ≡ if list_any (same_type ty) self.old then self.old else self.old ++ (ty ∷ [])) }
+        ensures number { IfOk result (λ added. added.0 ≡ place_of self.old ty) }
+        ensures is_new { IfOk result (λ added. added.1 ≡ not (list_any (same_type ty) self.old)) }
+        ensures unchanged { OnErr result (self.new ≡ self.old) }
+    {
+        let added = self.set.insert_full(ty)?;
+        Ok(added)
+    }
+
+    /// The types in order.
+    pub fn copy(&self, alloc: Global) -> Result<Sequence<Ty>, AllocError>
+        ensures { IfOk result (λ types. types ≡ self.now) }
+    {
         Ok(Sequence::from_vec(Vec::from_slice(alloc, self.set.as_slice())?))
     }
 }

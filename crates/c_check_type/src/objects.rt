@@ -41,7 +41,7 @@ fn array_length(length: Number) -> Checked<u32>
 }
 
 #[tactic(auto, unfolding(crate::specs::Declarators::with_length))]
-fn with_length(ty: Checked<TyId>, length: Option<Number>) -> Checked<ObjectType>
+pub fn with_length(ty: Checked<TyId>, length: Option<Number>) -> Checked<ObjectType>
     ensures { result ≡ spec.with_length ty length }
 {
     match length {

@@ -54,7 +54,7 @@ pub fn result_type(scope: &Scope, name: &TypeName) -> Checked<Option<TyId>>
 }
 
 #[tactic(auto, unfolding(crate::specs::Declarators::one_more))]
-fn one_more(
+pub fn one_more(
     done: Checked<Sequence<TyId>>,
     ty: Checked<TyId>,
 ) -> Result<Checked<Sequence<TyId>>, AllocError>
@@ -87,7 +87,7 @@ fn few(types: Checked<Sequence<TyId>>) -> Checked<Sequence<TyId>>
 }
 
 #[tactic(auto, unfolding(crate::specs::Declarators::made_signature))]
-fn made_signature(
+pub fn made_signature(
     answer: Checked<Option<TyId>>,
     params: Checked<Sequence<TyId>>,
 ) -> Checked<Signature>

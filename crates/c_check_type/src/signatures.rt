@@ -15,7 +15,7 @@ pub fn same_signature(a: &Signature, b: &Signature) -> bool
     same_result(a.result, b.result) && same_numbers(a.params.as_slice(), b.params.as_slice())
 }
 
-fn place_of(signatures: &[Signature], signature: &Signature) -> Option<usize>
+pub fn place_of(signatures: &[Signature], signature: &Signature) -> Option<usize>
     ensures { result ≡ position (spec.same_signature signature.now) signatures.now }
 {
     signatures

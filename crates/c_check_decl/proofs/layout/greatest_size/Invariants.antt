@@ -1,8 +1,7 @@
 use Rattle.std.proofs.Common.{◌≡◌, max, drop}
-use Rattle.c_types.specs.declared.parts.TheConstants.{POINTER_SIZE}
-use Rattle.c_types.specs.Layout.{greatest_size, shape_of}
+use Rattle.c_types.specs.Layout.{greatest_size}
 use Rattle.c_check_decl.proofs.layout.greatest_size.Given as goal
 
 abbrev pub invariant-loop-field : goal.invariant-loop-field
-invariant-loop-field l =
-    max l.greatest (greatest_size (shape_of POINTER_SIZE l.table) (drop l.field-index l.fields)) ≡ greatest_size (shape_of POINTER_SIZE l.table) l.fields
+invariant-loop-field g l =
+    max l.greatest (greatest_size (g.S.Shaped.shapes l.shapes) (drop l.field-index l.fields)) ≡ greatest_size (g.S.Shaped.shapes l.shapes) l.fields
