@@ -7,9 +7,9 @@ use Rattle.src_model.specs.declared.program.Program.{Program}
 use Rattle.src_model.specs.ValidNames.{are_distinct}
 use Rattle.c_check_scope.specs.Rules.{has, IsLeast}
 use Rattle.c_check_table.specs.Tables.{types_of}
-use Rattle.c_check_standing.specs.declared.standing.Standing.{Standing}
-use Rattle.c_check_outline.specs.Outlines.{outline}
-use Rattle.c_check_outline.proofs.DistinctNames.{texts_are_distinct}
+use Rattle.c_check.specs.declared.standing.Standing.{Standing}
+use Rattle.c_check_table.specs.Outlines.{outline}
+use Rattle.c_check_table.proofs.DistinctNames.{texts_are_distinct}
 use Rattle.c_check.specs.declared.verdict.Broken.{Broken}
 use Rattle.c_check.specs.Verdict.{finished, judged_in, scope_of, verdict}
 use Rattle.c_check.specs.Denotation.{IsTableOf, Denotes, Breaks, IsBroken, breaks_rule}

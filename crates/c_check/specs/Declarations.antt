@@ -2,10 +2,10 @@
 use Rattle.std.specs.Prelude.{List}
 use Rattle.c_ast.specs.Trees.{Declaration, Record, Global, Prototype, Definition}
 use Rattle.c_check_scope.specs.Rules.{Checked}
-use Rattle.c_check_object.specs.Objects.{declared_record, declared_global}
-use Rattle.c_check_function.specs.Functions.{declared_prototype, declared_definition}
-use Rattle.c_check_standing.specs.declared.standing.Standing.{Standing}
-use Rattle.c_check_standing.specs.declared.standing.Functions.{Functions}
+use Rattle.c_check.specs.Objects.{declared_record, declared_global}
+use Rattle.c_check.specs.Functions.{declared_prototype, declared_definition}
+use Rattle.c_check.specs.declared.standing.Standing.{Standing}
+use Rattle.c_check.specs.declared.standing.Functions.{Functions}
 
 unfoldable pub declared : List Declaration → Functions → Standing → Declaration → Checked Standing
 declared text functions s (Record kind x fields) = declared_record s kind x fields

@@ -8,8 +8,8 @@ use Rattle.src_model.specs.declared.program.Program.{Program}
 use Rattle.src_model.specs.ValidTable.{has_types}
 use Rattle.c_check_scope.specs.declared.scope.Scope.{Scope}
 use Rattle.c_check_scope.specs.Rules.{has, IsLeast}
-use Rattle.c_check_known.specs.Known.{knows_declarations}
-use Rattle.c_check_known.specs.Tally.{has_records}
+use Rattle.c_check_table.specs.Known.{knows_declarations}
+use Rattle.c_check_table.specs.Tally.{has_records}
 use Rattle.c_check_table.specs.Tables.{types_of}
 use Rattle.c_check.specs.declared.verdict.Broken.{Broken}
 use Rattle.c_check_scope.specs.declared.error.CheckError.{CheckError}

@@ -1,3 +1,9 @@
+pub mod Headings
+pub mod Standings
+pub mod Objects
+pub mod Functions
 pub mod Declarations
 pub mod Verdict
 pub mod Denotation
+pub mod ProgramScope
+pub mod Refusals

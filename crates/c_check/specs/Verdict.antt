@@ -11,13 +11,13 @@ use Rattle.c_check_scope.specs.declared.scope.Meaning.TheVariants.{Function}
 use Rattle.c_check_scope.specs.declared.rule.Rule.TheVariants.{EntryPoint}
 use Rattle.c_check_scope.specs.Rules.{Checked, only}
 use Rattle.c_check_scope.specs.Names.{global_of}
-use Rattle.c_check_outline.specs.Outlines.{outline}
-use Rattle.c_check_known.specs.Start.{start_scope}
-use Rattle.c_check_standing.specs.declared.standing.Standing.{Standing}
-use Rattle.c_check_standing.specs.declared.standing.Functions.{Functions}
+use Rattle.c_check_table.specs.Outlines.{outline}
+use Rattle.c_check_table.specs.Predeclared.{start_scope}
+use Rattle.c_check.specs.declared.standing.Standing.{Standing}
+use Rattle.c_check.specs.declared.standing.Functions.{Functions}
 use Rattle.c_check.specs.declared.verdict.Broken.{Broken}
-use Rattle.c_check_heading.specs.Headings.{signatures}
-use Rattle.c_check_standing.specs.Standings.{start}
+use Rattle.c_check.specs.Headings.{signatures}
+use Rattle.c_check.specs.Standings.{start}
 use Rattle.c_check.specs.Declarations.{declared}
 
 -- ---- the functions that each program has

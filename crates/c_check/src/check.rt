@@ -1,7 +1,7 @@
 // The program that a text denotes.
 
 ghost use Rattle.std.specs.Prelude.{◌≡◌, IfOk, IfErr};
-ghost use Rattle.c_check_outline.specs.Outlines as outlines;
+ghost use Rattle.c_check_table.specs.Outlines as outlines;
 ghost use Rattle.c_ast.specs.Trees.{declarations};
 ghost use Rattle.src_model.specs.Valid.{IsValid};
 ghost use Rattle.c_check_decl.specs.Globals as globals;
@@ -9,17 +9,17 @@ ghost use Rattle.c_check.specs.Verdict as spec;
 ghost use Rattle.c_check.specs.Denotation as denotation;
 ghost use Rattle.c_check.specs.Denotation.{IsTableOf, Denotes, Breaks, Refuses};
 
+use crate::headings::signatures;
+use crate::standing::{Functions, Standing, start};
 use crate::verdict::{Broken, judged};
 use c_ast::decl::Decl;
-use c_check_heading::headings::signatures;
-use c_check_known::signatures::knows_declarations;
-use c_check_known::start::start_scope;
-use c_check_known::tally::has_records;
-use c_check_outline::texts::outline;
 use c_check_scope::error::CheckError;
 use c_check_scope::scope::Scope;
-use c_check_standing::standing::{Functions, Standing, start};
+use c_check_table::known::knows_declarations;
 use c_check_table::make::make_table;
+use c_check_table::predeclared::start_scope;
+use c_check_table::tally::has_records;
+use c_check_table::texts::outline;
 use c_types::TypeTable;
 use sqlite_items::Items;
 use src_model::has_types;

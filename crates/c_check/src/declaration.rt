@@ -5,11 +5,11 @@ ghost use Rattle.c_ast.specs.Trees.{declaration, declarations};
 ghost use Rattle.c_check_decl.specs.Globals.{types_alone};
 ghost use Rattle.c_check.specs.Declarations as spec;
 
+use crate::definitions::{declared_definition, declared_prototype};
+use crate::objects::{declared_global, declared_record};
+use crate::standing::{Functions, Standing};
 use c_ast::decl::Decl;
-use c_check_function::definitions::{declared_definition, declared_prototype};
-use c_check_object::objects::{declared_global, declared_record};
 use c_check_scope::checked::Checked;
-use c_check_standing::standing::{Functions, Standing};
 use src_model::program::Program;
 use std::alloc::{AllocError, Global};
 

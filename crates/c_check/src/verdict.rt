@@ -6,11 +6,11 @@ ghost use Rattle.c_check_decl.specs.Globals.{types_alone};
 ghost use Rattle.c_check.specs.Verdict as spec;
 
 use crate::declaration::declared;
+use crate::standing::{Functions, Standing};
 use c_ast::decl::Decl;
 use c_check_scope::rule::Rule;
 use c_check_scope::rules::Rules;
 use c_check_scope::scope::Meaning;
-use c_check_standing::standing::{Functions, Standing};
 use lu_base::Name;
 use sqlite_items::at;
 use src_model::program::{Function, Program};

@@ -20,8 +20,8 @@ use Rattle.c_check_scope.specs.Names.{number_named, flat, meaning_of}
 use Rattle.c_check_expr.specs.Denoted.{type_at}
 use Rattle.c_check_expr.specs.Typing.{typed}
 use Rattle.c_check_expr.specs.Uses.{right_side}
-use Rattle.c_check_type.specs.declared.objects.ObjectType.{ObjectType}
-use Rattle.c_check_type.specs.Declarators.{object_number}
+use Rattle.c_check_expr.specs.declared.objects.ObjectType.{ObjectType}
+use Rattle.c_check_expr.specs.Declarators.{object_number}
 use Rattle.c_check_decl.specs.Records.{object_size, small_type}
 use Rattle.c_check_decl.specs.declared.globals.DeclaredGlobal.{DeclaredGlobal}
 

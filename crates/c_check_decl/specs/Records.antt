@@ -15,8 +15,8 @@ use Rattle.c_check_scope.specs.declared.rule.Rule.{Rule}
 use Rattle.c_check_scope.specs.declared.rule.Rule.TheVariants.{Fields, Size, TooMany}
 use Rattle.c_check_scope.specs.Rules.{Checked, both, broken, only}
 use Rattle.c_check_scope.specs.Names.{number_named, with_name, object_name}
-use Rattle.c_check_type.specs.declared.objects.ObjectType.{ObjectType}
-use Rattle.c_check_type.specs.Declarators.{object_type, object_number}
+use Rattle.c_check_expr.specs.declared.objects.ObjectType.{ObjectType}
+use Rattle.c_check_expr.specs.Declarators.{object_type, object_number}
 
 -- ---- fields and globals
 

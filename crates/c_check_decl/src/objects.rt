@@ -6,11 +6,11 @@ ghost use Rattle.c_check_decl.specs.Records as spec;
 
 use crate::shaped::Shaped;
 use c_ast::decl::Named;
+use c_check_expr::objects::{ObjectType, object_type};
 use c_check_scope::checked::Checked;
 use c_check_scope::rule::Rule;
 use c_check_scope::rules::Rules;
 use c_check_scope::scope::Scope;
-use c_check_type::objects::{ObjectType, object_type};
 use c_types::{GREATEST, TypeTable};
 use std::alloc::{AllocError, Global};
 

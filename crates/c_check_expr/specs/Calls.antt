@@ -9,9 +9,9 @@ use Rattle.c_ast.specs.Trees.{Expression, Paren, Size}
 use Rattle.src_model.specs.declared.expr.TypedExpr.{TypedExpr}
 use Rattle.src_model.specs.declared.stmt.Callee.{Callee as Node}
 use Rattle.src_model.specs.declared.stmt.Callee.TheVariants as N
-use Rattle.c_judge.specs.Kinds.{signature_of}
-use Rattle.c_judge.specs.Operations.{int_type, long_type}
-use Rattle.c_judge.specs.Conversions.{converts}
+use Rattle.c_check_scope.specs.Kinds.{signature_of}
+use Rattle.c_check_scope.specs.Operations.{int_type, long_type}
+use Rattle.c_check_scope.specs.Conversions.{converts}
 use Rattle.c_check_expr.specs.declared.denoted.Denoted.{Denoted}
 use Rattle.c_check_expr.specs.declared.denoted.Denoted.TheVariants as D
 use Rattle.c_check_expr.specs.declared.calls.Called.{Called}

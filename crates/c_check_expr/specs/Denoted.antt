@@ -8,10 +8,10 @@ use Rattle.src_model.specs.declared.expr.TypedExpr.{TypedExpr}
 use Rattle.src_model.specs.declared.expr.TypedPlace.{TypedPlace}
 use Rattle.src_model.specs.declared.expr.ExprKind.{ExprKind}
 use Rattle.src_model.specs.declared.expr.ExprKind as E
-use Rattle.c_judge.specs.declared.operand.Operand.{Operand}
-use Rattle.c_judge.specs.Numbers.{number_of}
-use Rattle.c_judge.specs.Kinds.{element_of}
-use Rattle.c_judge.specs.Operations.{int_type}
+use Rattle.c_check_scope.specs.declared.operand.Operand.{Operand}
+use Rattle.c_check_scope.specs.Numbers.{number_of}
+use Rattle.c_check_scope.specs.Kinds.{element_of}
+use Rattle.c_check_scope.specs.Operations.{int_type}
 use Rattle.c_check_expr.specs.declared.denoted.Denoted.{Denoted}
 use Rattle.c_check_expr.specs.declared.denoted.Denoted.TheVariants as D
 use Rattle.c_check_scope.specs.declared.rule.Rule.TheVariants.{NoAddress, BuiltIn}

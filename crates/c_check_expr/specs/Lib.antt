@@ -4,3 +4,4 @@ pub mod Operations
 pub mod Typing
 pub mod Uses
 pub mod Calls
+pub mod Declarators

@@ -9,13 +9,13 @@ use Rattle.src_model.specs.declared.expr.UnaryOperator.{UnaryOperator}
 use Rattle.src_model.specs.declared.expr.UnaryOperator.TheVariants.{Not}
 use Rattle.src_model.specs.declared.expr.ExprKind.{ExprKind}
 use Rattle.src_model.specs.declared.expr.ExprKind as E
-use Rattle.c_judge.specs.declared.operation.Node.{Node}
-use Rattle.c_judge.specs.declared.operation.Node.TheVariants as N
-use Rattle.c_judge.specs.declared.operation.Operation.{Operation}
-use Rattle.c_judge.specs.Kinds.{is_scalar}
-use Rattle.c_judge.specs.Operands.{promoted_type, joined}
-use Rattle.c_judge.specs.Operations.{int_type, operation_of}
-use Rattle.c_judge.specs.Conversions.{casts}
+use Rattle.c_check_scope.specs.declared.operation.Node.{Node}
+use Rattle.c_check_scope.specs.declared.operation.Node.TheVariants as N
+use Rattle.c_check_scope.specs.declared.operation.Operation.{Operation}
+use Rattle.c_check_scope.specs.Kinds.{is_scalar}
+use Rattle.c_check_scope.specs.Operands.{promoted_type, joined}
+use Rattle.c_check_scope.specs.Operations.{int_type, operation_of}
+use Rattle.c_check_scope.specs.Conversions.{casts}
 use Rattle.c_check_expr.specs.declared.denoted.Denoted.{Denoted}
 use Rattle.c_check_expr.specs.declared.denoted.Denoted.TheVariants as D
 use Rattle.c_check_expr.specs.declared.operators.Branches.{Branches}

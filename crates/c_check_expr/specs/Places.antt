@@ -13,9 +13,9 @@ use Rattle.src_model.specs.declared.expr.TypedPlace.{TypedPlace}
 use Rattle.src_model.specs.declared.expr.ExprKind as E
 use Rattle.src_model.specs.declared.expr.PlaceKind.{PlaceKind}
 use Rattle.src_model.specs.declared.expr.PlaceKind as P
-use Rattle.c_judge.specs.declared.members.Part.{Part}
-use Rattle.c_judge.specs.Kinds.{kind_of, element_of, target_of as target_in}
-use Rattle.c_judge.specs.Operations.{long_type}
+use Rattle.c_check_scope.specs.declared.members.Part.{Part}
+use Rattle.c_check_scope.specs.Kinds.{kind_of, element_of, target_of as target_in}
+use Rattle.c_check_scope.specs.Operations.{long_type}
 use Rattle.c_check_expr.specs.declared.denoted.Denoted.{Denoted}
 use Rattle.c_check_expr.specs.declared.denoted.Denoted.TheVariants as D
 use Rattle.c_check_expr.specs.declared.places.Base.{Base}

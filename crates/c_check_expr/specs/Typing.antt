@@ -25,7 +25,7 @@ use Rattle.src_model.specs.declared.expr.TypedExpr.{TypedExpr}
 use Rattle.src_model.specs.declared.expr.UnaryOperator.TheVariants as M
 use Rattle.src_model.specs.declared.expr.ExprKind as E
 use Rattle.src_model.specs.declared.expr.PlaceKind as P
-use Rattle.c_judge.specs.Operations.{int_type}
+use Rattle.c_check_scope.specs.Operations.{int_type}
 use Rattle.c_check_expr.specs.declared.denoted.Denoted.{Denoted}
 use Rattle.c_check_expr.specs.declared.denoted.Denoted.TheVariants as D
 use Rattle.c_check_scope.specs.declared.scope.Scope.{Scope}

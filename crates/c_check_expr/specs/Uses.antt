@@ -5,8 +5,8 @@ use Rattle.c_types.specs.declared.parts.Parts.{Parts}
 use Rattle.c_ast.specs.Trees.{Expression}
 use Rattle.src_model.specs.declared.expr.TypedExpr.{TypedExpr}
 use Rattle.src_model.specs.declared.expr.TypedPlace.{TypedPlace}
-use Rattle.c_judge.specs.Kinds.{is_record, element_of}
-use Rattle.c_judge.specs.Conversions.{converts}
+use Rattle.c_check_scope.specs.Kinds.{is_record, element_of}
+use Rattle.c_check_scope.specs.Conversions.{converts}
 use Rattle.c_check_expr.specs.declared.denoted.Denoted.{Denoted}
 use Rattle.c_check_expr.specs.declared.denoted.Denoted.TheVariants as D
 use Rattle.c_check_expr.specs.declared.uses.Assigned.{Assigned}

@@ -1,7 +1,7 @@
 // Places: what they are made of, and their addresses.
 
 ghost use Rattle.std.specs.Prelude.{◌≡◌, IfOk};
-ghost use Rattle.c_judge.specs.Kinds.{element_of};
+ghost use Rattle.c_check_scope.specs.Kinds.{element_of};
 ghost use Rattle.c_check_expr.specs.Denoted.{type_at};
 ghost use Rattle.c_check_expr.specs.Places.{target_of, place_base, index_of, based, item, element, part_place, part_within, part, arrow, dereferenced, is_variable, is_dereference, has_form, address_in, address_of, addressed};
 ghost use Rattle.c_ast.specs.Trees.{expression};
@@ -10,13 +10,13 @@ use crate::denoted::Denoted;
 use crate::values::{converted, node, type_at, value_of, valued};
 use c_ast::expr::{Expr, UnaryOperator};
 use c_check_scope::checked::{Checked, both};
+use c_check_scope::kinds::{self, element_of, kind_of};
+use c_check_scope::members::Part;
+use c_check_scope::operation::LONG_LONG;
 use c_check_scope::rule::Rule;
 use c_check_scope::rules::Rules;
 use c_check_scope::scope::{Meaning, Scope};
-use c_judge::kinds::{self, element_of, kind_of};
-use c_judge::members::Part;
-use c_judge::operation::LONG_LONG;
-use c_judge::types::Types;
+use c_check_scope::types::Types;
 use c_types::{Ty, TyId};
 use lu_base::Name;
 use sqlite_items::Boxed;

@@ -5,12 +5,12 @@ ghost use Rattle.c_check_expr.specs.Denoted.{type_at, value, loaded, value_of, v
 
 use crate::denoted::Denoted;
 use c_check_scope::checked::Checked;
+use c_check_scope::kinds::element_of;
+use c_check_scope::operand::Operand;
+use c_check_scope::operation::INT;
 use c_check_scope::rule::Rule;
 use c_check_scope::rules::Rules;
-use c_judge::kinds::element_of;
-use c_judge::operand::Operand;
-use c_judge::operation::INT;
-use c_judge::types::Types;
+use c_check_scope::types::Types;
 use c_types::{Ty, TyId};
 use sqlite_items::Boxed;
 use src_model::expr::{ExprKind, TypedExpr, TypedPlace};

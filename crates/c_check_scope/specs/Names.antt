@@ -5,9 +5,9 @@ use Rattle.std.specs.Str.{bytes_eq}
 use Rattle.lu_spec.specs.Then.{then_option}
 use Rattle.c_ast.specs.Trees.{Object, Data, Pointer}
 use Rattle.c_types.specs.declared.parts.Ty.{Ty}
-use Rattle.c_judge.specs.declared.members.Part.{Part}
-use Rattle.c_judge.specs.Members.{part_of}
-use Rattle.c_judge.specs.Operands.{or_else}
+use Rattle.c_check_scope.specs.declared.members.Part.{Part}
+use Rattle.c_check_scope.specs.Members.{part_of}
+use Rattle.c_check_scope.specs.Operands.{or_else}
 use Rattle.c_check_scope.specs.declared.scope.Scope.{Scope}
 use Rattle.c_check_scope.specs.declared.scope.Meaning.{Meaning}
 use Rattle.c_check_scope.specs.declared.scope.Tag.{Tag}

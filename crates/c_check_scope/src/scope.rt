@@ -3,10 +3,10 @@
 ghost use Rattle.std.specs.Prelude.{◌≡◌};
 ghost use Rattle.c_check_scope.specs.Names.{local_of, global_of, meaning_of, tag_of, part_named, with_meaning};
 
+use crate::members::{Part, part_of};
 use crate::names::Names;
+use crate::types::Types;
 use c_ast::types::TagKind;
-use c_judge::members::{Part, part_of};
-use c_judge::types::Types;
 use c_types::{Ty, TyId};
 use lu_base::Name;
 use sqlite_items::Items;

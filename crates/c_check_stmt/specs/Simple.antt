@@ -13,7 +13,7 @@ use Rattle.c_check_expr.specs.declared.uses.Assigned.TheVariants as A
 use Rattle.c_check_scope.specs.declared.rule.Rule.TheVariants.{OutsideLoop, Returned}
 use Rattle.c_check_scope.specs.Rules.{Checked, both, only}
 use Rattle.c_check_expr.specs.Uses.{condition, left_side}
-use Rattle.c_check_type.specs.Declarators.{param_type}
+use Rattle.c_check_expr.specs.Declarators.{param_type}
 use Rattle.c_check_stmt.specs.declared.state.State.{State}
 use Rattle.c_check_stmt.specs.declared.state.Frame.{Frame}
 use Rattle.c_check_stmt.specs.Variables.{name_of, used_type, with_variable, declared}

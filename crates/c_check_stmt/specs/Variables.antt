@@ -3,7 +3,7 @@ use Rattle.std.specs.Prelude.{ℕ, [], ◌∷◌, ◌++◌, length, Option, Some
 use Rattle.lu_spec.specs.Then.{then_do}
 use Rattle.c_types.specs.declared.parts.Parts.{Parts}
 use Rattle.c_ast.specs.Trees.{Text, Parameter, Plain, Function, Parameters, NoParameter, Also}
-use Rattle.c_judge.specs.Operations.{int_type}
+use Rattle.c_check_scope.specs.Operations.{int_type}
 use Rattle.c_check_scope.specs.declared.scope.Scope.{Scope}
 use Rattle.c_check_scope.specs.declared.scope.Meaning.{Meaning}
 use Rattle.c_check_scope.specs.declared.scope.Meaning.TheVariants.{Local}
@@ -11,7 +11,7 @@ use Rattle.c_check_scope.specs.declared.rule.Rule.TheVariants.{LocalTaken}
 use Rattle.c_check_scope.specs.Rules.{Checked, both, only}
 use Rattle.c_check_scope.specs.Names.{meaning_of, with_name}
 use Rattle.c_check_expr.specs.Denoted.{number}
-use Rattle.c_check_type.specs.Declarators.{param_type}
+use Rattle.c_check_expr.specs.Declarators.{param_type}
 
 -- the scope outside functions
 abbrev pub bare : Scope → Scope

@@ -13,7 +13,7 @@ use c_check_expr::uses::right_side;
 use c_check_expr::values::valued;
 use c_check_scope::checked::{Checked, broken};
 use c_check_scope::scope::Scope;
-use c_judge::types::Types;
+use c_check_scope::types::Types;
 use c_types::TyId;
 use sqlite_items::Items;
 use src_model::stmt::Rhs;

@@ -2,18 +2,18 @@
 
 ghost use Rattle.std.specs.Prelude.{◌≡◌, IfOk, Ok};
 ghost use Rattle.c_ast.specs.Trees.{parameter, parameters};
-ghost use Rattle.c_check_type.specs.Declarators as declarators;
+ghost use Rattle.c_check_expr.specs.Declarators as declarators;
 ghost use Rattle.c_check_stmt.specs.Variables as spec;
 
 use c_ast::stmt::Param;
+use c_check_expr::params::param_type;
 use c_check_scope::checked::{Checked, both};
 use c_check_scope::numbers::as_number;
+use c_check_scope::operation::INT;
 use c_check_scope::rule::Rule;
 use c_check_scope::rules::Rules;
 use c_check_scope::scope::{Meaning, Scope};
-use c_check_type::params::param_type;
-use c_judge::operation::INT;
-use c_judge::types::Types;
+use c_check_scope::types::Types;
 use c_types::TyId;
 use lu_base::Name;
 use std::alloc::{AllocError, Global};

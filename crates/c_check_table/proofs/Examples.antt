@@ -7,17 +7,17 @@ use Rattle.c_ast.specs.declared.types.BaseType.TheVariants as B
 use Rattle.c_ast.specs.declared.types.TagKind.TheVariants.{Struct}
 use Rattle.c_ast.specs.declared.types.TypeName.{TypeName}
 use Rattle.c_ast.specs.Trees.{Plain, Function, NoParameter, Also, Data, Declaration, Record, Prototype}
-use Rattle.c_judge.specs.Numbers as numbers
-use Rattle.c_judge.specs.Kinds as kinds
+use Rattle.c_check_scope.specs.Numbers as numbers
+use Rattle.c_check_scope.specs.Kinds as kinds
 use Rattle.c_check_scope.specs.Rules as rules
 use Rattle.c_check_scope.specs.Names as names
-use Rattle.c_check_outline.specs.Outlines as outlines
+use Rattle.c_check_table.specs.Outlines as outlines
 use Rattle.c_check_expr.specs.Typing as typing
 use Rattle.c_check_expr.specs.Denoted as denoted
-use Rattle.c_check_type.specs.Declarators as declarators
+use Rattle.c_check_expr.specs.Declarators as declarators
 use Rattle.c_check_decl.specs.Records as decls
-use Rattle.c_check_known.specs.Start as start
-use Rattle.c_check_known.specs.Tally as tally
+use Rattle.c_check_table.specs.Predeclared as start
+use Rattle.c_check_table.specs.Tally as tally
 use Rattle.c_check_table.specs.Drafts as drafts
 use Rattle.c_check_table.specs.Signatures as signatures
 use Rattle.c_check_table.specs.Records as records

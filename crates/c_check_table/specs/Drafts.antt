@@ -8,7 +8,7 @@ use Rattle.c_types.specs.declared.parts.Parts.{Parts}
 use Rattle.c_types.specs.declared.shape.Shape.{Shape}
 use Rattle.c_types.specs.Layout.{Shapes, shape}
 use Rattle.c_types.specs.Rounds.{shape_at}
-use Rattle.c_judge.specs.Numbers.{same_type}
+use Rattle.c_check_scope.specs.Numbers.{same_type}
 use Rattle.c_check_table.specs.declared.draft.Draft.{Draft}
 
 -- the number of a type; where it isn't there, the number that it would have

@@ -9,16 +9,16 @@ use Rattle.c_ast.specs.declared.token.Number.{Number}
 use Rattle.c_ast.specs.declared.types.TagKind.{TagKind}
 use Rattle.c_ast.specs.declared.types.TagKind.TheVariants.{Struct, Union}
 use Rattle.c_ast.specs.Trees.{Text, Object, Data, Pointer, Declaration, Record, Global, Prototype, Definition}
-use Rattle.c_judge.specs.Operations.{int_type}
+use Rattle.c_check_scope.specs.Operations.{int_type}
 use Rattle.c_check_scope.specs.declared.scope.Scope.{Scope}
 use Rattle.c_check_scope.specs.declared.scope.Tag.{Tag}
 use Rattle.c_check_scope.specs.Rules.{Checked}
 use Rattle.c_check_scope.specs.Names.{tag_of, object_name}
 use Rattle.c_check_expr.specs.Typing.{named}
-use Rattle.c_check_type.specs.declared.objects.ObjectType.{ObjectType}
-use Rattle.c_check_type.specs.Declarators.{with_length}
+use Rattle.c_check_expr.specs.declared.objects.ObjectType.{ObjectType}
+use Rattle.c_check_expr.specs.Declarators.{with_length}
 use Rattle.c_check_decl.specs.Records.{name_number, object_size, small, one_more, judged_fields, record_shape}
-use Rattle.c_check_known.specs.Tally.{declare_tag, nameless, message_fields_of}
+use Rattle.c_check_table.specs.Tally.{declare_tag, nameless, message_fields_of}
 use Rattle.c_check_table.specs.declared.draft.Draft.{Draft}
 use Rattle.c_check_table.specs.Drafts.{place_of, with_type, shapes}
 use Rattle.c_check_table.specs.Signatures.{heading_in}

@@ -6,7 +6,7 @@ use Rattle.c_ast.specs.declared.types.TypeName.{TypeName}
 use Rattle.c_ast.specs.Trees.{Parameter, Plain, Function, Parameters, NoParameter, Also, Statement, Block, Empty, Local, Assign, Call, If, IfElse, While, For, Break, Continue, Return, Statements, Done, Then, Object, Data, Pointer, Declaration, Record, Global, Prototype, Definition}
 use Rattle.c_check_scope.specs.declared.scope.Scope.{Scope}
 use Rattle.c_check_scope.specs.Rules.{Checked}
-use Rattle.c_check_type.specs.Declarators.{same_signature, result_type, param_type, one_more, made_signature}
+use Rattle.c_check_expr.specs.Declarators.{same_signature, result_type, param_type, one_more, made_signature}
 use Rattle.c_check_table.specs.declared.draft.Draft.{Draft}
 use Rattle.c_check_table.specs.Drafts.{place_of, pointer_shape, with_stars}
 

@@ -11,9 +11,9 @@ use Rattle.c_types.specs.Layout.{shape, int_size}
 use Rattle.c_types.specs.Refusal.{IsBuilt}
 use Rattle.c_ast.specs.Trees.{Declaration}
 use Rattle.c_check_scope.specs.declared.scope.Scope.{Scope}
-use Rattle.c_check_outline.specs.declared.outline.Outline.{Outline}
-use Rattle.c_check_outline.specs.Outlines.{outline}
-use Rattle.c_check_known.specs.Start.{start_scope}
+use Rattle.c_check_table.specs.declared.outline.Outline.{Outline}
+use Rattle.c_check_table.specs.Outlines.{outline}
+use Rattle.c_check_table.specs.Predeclared.{start_scope}
 use Rattle.c_check_table.specs.declared.draft.Draft.{Draft}
 use Rattle.c_check_table.specs.Drafts.{nothing, pointer_shape, with_stars, parts_of}
 use Rattle.c_check_table.specs.Signatures as signatures

@@ -8,12 +8,12 @@ ghost use Rattle.c_check_table.specs.Tables as spec;
 
 use crate::bodies::add_signatures;
 use crate::draft::{Draft, parts_of};
+use crate::outline::Outline;
+use crate::predeclared::start_scope;
 use crate::records::{add_message, add_records};
 use crate::start::{base, base_parts};
+use crate::texts::outline;
 use c_ast::decl::Decl;
-use c_check_known::start::start_scope;
-use c_check_outline::outline::Outline;
-use c_check_outline::texts::outline;
 use c_check_scope::scope::Scope;
 use c_types::{BuildError, Parts, TypeTable, well_numbered};
 use std::alloc::{AllocError, Global};

@@ -10,11 +10,11 @@ use crate::draft::Draft;
 use crate::signatures::add_heading;
 use c_ast::decl::Named;
 use c_check_decl::objects::{object_size, small};
+use c_check_expr::objects::{ObjectType, with_length};
 use c_check_expr::typing::named;
 use c_check_scope::checked::Checked;
 use c_check_scope::numbers::as_number;
 use c_check_scope::scope::Scope;
-use c_check_type::objects::{ObjectType, with_length};
 use c_types::{Shape, Ty, TyId};
 use std::alloc::{AllocError, Global};
 

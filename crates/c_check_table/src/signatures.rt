@@ -7,11 +7,11 @@ ghost use Rattle.c_check_table.specs.Signatures as spec;
 use crate::draft::{Draft, POINTER, push};
 use c_ast::stmt::Param;
 use c_ast::types::TypeName;
+use c_check_expr::params::{made_signature, one_more, param_type, result_type};
+use c_check_expr::signatures::place_of;
 use c_check_scope::checked::Checked;
 use c_check_scope::numbers::as_number;
 use c_check_scope::scope::Scope;
-use c_check_type::params::{made_signature, one_more, param_type, result_type};
-use c_check_type::signatures::place_of;
 use c_types::{Sequence, Signature, Ty, TyId};
 use std::alloc::{AllocError, Global};
 

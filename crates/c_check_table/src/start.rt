@@ -7,8 +7,8 @@ ghost use Rattle.c_check_table.specs.Drafts.{with_stars};
 ghost use Rattle.c_check_table.specs.Tables as spec;
 
 use crate::draft::{Draft, POINTER};
+use crate::outline::Outline;
 use crate::signatures::GREATEST_STARS;
-use c_check_outline::outline::Outline;
 use c_check_scope::numbers::next;
 use c_types::{FieldDef, IntKind, Parts, Sequence, Shape, TagDef, Ty};
 use std::alloc::{AllocError, Global};

@@ -2,7 +2,7 @@
 
 ghost use Rattle.std.specs.Prelude.{◌≡◌, ◌++◌, ◌∷◌, [], IfOk, OnErr, length, not, slice_get, if◌then◌else◌};
 ghost use Rattle.std.specs.List.{list_any};
-ghost use Rattle.c_judge.specs.Numbers.{same_type};
+ghost use Rattle.c_check_scope.specs.Numbers.{same_type};
 ghost use Rattle.c_check_table.specs.Drafts.{place_of};
 
 use c_types::{Sequence, Ty, TyId};

@@ -2,7 +2,7 @@
 
 use c_ast::expr::Expr;
 use c_ast::types::{BaseType, TagKind, TypeName};
-use c_check_filter::checking::check_expr;
+use c_check::checking::check_expr;
 use c_check_scope::error::CheckError;
 use c_types::{
     FieldDef, IntKind, Parts, Sequence, Signature, TagDef, Ty, TypeTable, well_numbered,

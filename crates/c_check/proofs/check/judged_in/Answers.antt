@@ -1,7 +1,7 @@
 use Rattle.std.proofs.Common.{◌≡◌, subst}
 use Rattle.std.specs.Prelude.{IfOk}
 use Rattle.c_ast.specs.Trees.{declarations}
-use Rattle.c_check_standing.specs.Standings.{start}
+use Rattle.c_check.specs.Standings.{start}
 use Rattle.c_check.specs.Verdict as spec
 use Rattle.c_check.proofs.check.judged_in.Goals as goal
 

@@ -1,2 +1,0 @@
-pub mod ProgramScope
-pub mod Refusals

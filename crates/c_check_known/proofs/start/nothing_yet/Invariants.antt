@@ -1,5 +1,0 @@
-use Rattle.std.proofs.Common.{◌≡◌, replicate, None}
-use Rattle.c_check_known.proofs.start.nothing_yet.Given as goal
-
-abbrev pub invariant-loop : goal.invariant-loop
-invariant-loop l = l.meanings ≡ replicate l.counter None
