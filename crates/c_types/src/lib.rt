@@ -12,14 +12,13 @@ mod parts;
 mod path;
 mod places;
 mod rounds;
-mod sequence;
 mod shape;
 mod table;
 
 pub use errors::{BuildError, Memory};
+pub use lu_base::Sequence;
 pub use numbering::well_numbered;
 pub use parts::{FieldDef, IntKind, POINTER_SIZE, Parts, Signature, TagDef, Ty, TyId};
 pub use path::{Path, Place, Step};
-pub use sequence::Sequence;
 pub use shape::{GREATEST, Shape};
 pub use table::TypeTable;

@@ -1,7 +1,7 @@
 ghost use Rattle.std.specs.Prelude.{◌≡◌, IfOk, slice_get};
 ghost use Rattle.c_types.specs.Tables.{fields_of, members_of};
 
-use crate::sequence::Sequence;
+use lu_base::Sequence;
 use std::alloc::{AllocError, Global};
 
 /// The number of a type in the list of types.

@@ -4,17 +4,20 @@
 mod bytes8;
 mod calm_shelf;
 mod file_shelf;
+pub mod limits;
 mod mem_shelf;
 mod mem_sink;
 mod memory;
 mod message;
 mod name;
 mod out_sink;
+mod sequence;
 mod shelf;
 mod sink;
 mod status;
 mod stored;
 mod trap;
+mod world;
 
 pub use bytes8::Bytes8;
 pub use calm_shelf::CalmShelf;
@@ -25,10 +28,12 @@ pub use memory::Memory;
 pub use message::Message;
 pub use name::Name;
 pub use out_sink::OutSink;
+pub use sequence::Sequence;
 pub use shelf::{Shelf, ShelfFault};
 pub use sink::{Sink, SinkFault};
 pub use status::Status;
 pub use trap::Trap;
+pub use world::World;
 
 #[cfg(test)]
 mod tests {

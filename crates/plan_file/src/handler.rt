@@ -8,19 +8,19 @@ ghost use Rattle.std.specs.Prelude.{codes};
 
 use crate::form::TextForm;
 use crate::lookup::{find, has_only, needed_text, table_items};
-use crate::{Entries, Handler, Key, LimitedList, PlanError};
+use crate::{Handler, Key, LimitedList, PlanError, Sequence};
 use std::alloc::Global;
 use toml::{Table, Value};
 
 // The handlers of an update's table.
-pub fn read_handlers(alloc: Global, table: &Table) -> Result<Entries<Handler>, PlanError>
+pub fn read_handlers(alloc: Global, table: &Table) -> Result<Sequence<Handler>, PlanError>
     ensures { Reads (handlers_of (get_member (codes "handler") (table_view table.now))) result }
 {
     match find(table, "handler") {
-        None => Ok(Entries::from_vec(Vec::new(alloc))),
+        None => Ok(Sequence::from_vec(Vec::new(alloc))),
         Some(value) => {
             let items = table_items(value, Key::UpdateHandler, LimitedList::Handlers, 0, 16)?;
-            Ok(Entries::from_vec(read_items(alloc, items)?))
+            Ok(Sequence::from_vec(read_items(alloc, items)?))
         }
     }
 }

@@ -1,7 +1,6 @@
 //! Update plans: what servers there are, which updates they get, and the schedule's file, read from TOML.
 #![tactic(auto)]
 
-mod entries;
 mod error;
 mod form;
 mod handler;
@@ -16,9 +15,8 @@ mod settings;
 mod tests;
 mod update;
 
-pub use entries::Entries;
 pub use error::PlanError;
 pub use key::{Key, LimitedList};
-pub use lu_base::{Memory, Name};
+pub use lu_base::{Memory, Name, Sequence};
 pub use plan::{Dangling, Handler, Plan, Rename, Server, Update};
 pub use read::read_plan;

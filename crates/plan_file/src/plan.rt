@@ -1,4 +1,4 @@
-use crate::Entries;
+use crate::Sequence;
 use lu_base::Name;
 
 /// What a plan says.
@@ -7,9 +7,9 @@ pub struct Plan {
     /// The name of the schedule's file.
     pub schedule: Name,
     /// The servers, 1..16.
-    pub server: Entries<Server>,
+    pub server: Sequence<Server>,
     /// The updates, 0..64.
-    pub update: Entries<Update>,
+    pub update: Sequence<Update>,
 }
 
 /// A server of a plan.
@@ -41,7 +41,7 @@ pub struct Update {
     /// The text of the filter, an expression of at most 4,096 bytes.
     pub filter: Name,
     /// The types of message that are held back while the update is active, at most 64.
-    pub hold: Entries<i32>,
+    pub hold: Sequence<i32>,
     /// In how many deliveries the server may become quiet, 1..1,000.
     pub tries: u32,
     /// What becomes of a pointer to an object that is dead.
@@ -51,9 +51,9 @@ pub struct Update {
     /// The function that is called once the state has moved.
     pub after: Option<Name>,
     /// What has another name in the new program: in the order of the tables and, within one, of the old names' bytes.
-    pub rename: Entries<Rename>,
+    pub rename: Sequence<Rename>,
     /// The handlers, 0..16.
-    pub handler: Entries<Handler>,
+    pub handler: Sequence<Handler>,
 }
 
 /// What becomes of a pointer to an object that is dead.

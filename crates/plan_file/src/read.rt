@@ -8,7 +8,7 @@ use crate::form::TextForm;
 use crate::lookup::{find, has_only, needed_text, table_items};
 use crate::server::read_servers;
 use crate::update::read_updates;
-use crate::{Entries, Key, LimitedList, Plan, PlanError, Server, Update};
+use crate::{Key, LimitedList, Plan, PlanError, Sequence, Server, Update};
 use std::alloc::Global;
 use toml::Table;
 
@@ -60,7 +60,7 @@ fn plan_in(alloc: Global, document: &Table) -> Result<Plan, PlanError>
     })
 }
 
-fn servers(alloc: Global, document: &Table) -> Result<Entries<Server>, PlanError>
+fn servers(alloc: Global, document: &Table) -> Result<Sequence<Server>, PlanError>
     ensures answer { Reads (servers_of (get_member (codes "server") (table_view document.now))) result }
     ensures count { IfOk result (λ servers. (1 ≤ length servers) × (length servers ≤ 16)) }
 {
@@ -68,7 +68,7 @@ fn servers(alloc: Global, document: &Table) -> Result<Entries<Server>, PlanError
         None => Err(PlanError::Field { name: Key::Server }),
         Some(value) => {
             let items = table_items(value, Key::Server, LimitedList::Servers, 1, 16)?;
-            Ok(Entries::from_vec(read_servers(alloc, items)?))
+            Ok(Sequence::from_vec(read_servers(alloc, items)?))
         }
     }
 }
@@ -77,15 +77,15 @@ fn updates(
     alloc: Global,
     servers: &[Server],
     document: &Table,
-) -> Result<Entries<Update>, PlanError>
+) -> Result<Sequence<Update>, PlanError>
     ensures answer { Reads (updates_of servers.now (get_member (codes "update") (table_view document.now))) result }
     ensures count { IfOk result (λ updates. length updates ≤ 64) }
 {
     match find(document, "update") {
-        None => Ok(Entries::from_vec(Vec::new(alloc))),
+        None => Ok(Sequence::from_vec(Vec::new(alloc))),
         Some(value) => {
             let items = table_items(value, Key::Update, LimitedList::Updates, 0, 64)?;
-            Ok(Entries::from_vec(read_updates(alloc, servers, items)?))
+            Ok(Sequence::from_vec(read_updates(alloc, servers, items)?))
         }
     }
 }

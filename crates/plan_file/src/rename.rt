@@ -7,7 +7,7 @@ ghost use Rattle.plan_file.specs.Renames as renames;
 
 use crate::form::{is_dotted, is_name, is_site};
 use crate::lookup::{copied, find, has_only};
-use crate::{Entries, Key, PlanError, Rename};
+use crate::{Key, PlanError, Rename, Sequence};
 use std::alloc::Global;
 use toml::{Table, Value};
 
@@ -75,16 +75,16 @@ impl RenameTable {
 }
 
 // The renames of an update's table.
-pub fn read_renames(alloc: Global, table: &Table) -> Result<Entries<Rename>, PlanError>
+pub fn read_renames(alloc: Global, table: &Table) -> Result<Sequence<Rename>, PlanError>
     ensures { Reads (renames.renames_of (get_member (codes "rename") (table_view table.now))) result }
 {
     match find(table, "rename") {
-        None => Ok(Entries::from_vec(Vec::new(alloc))),
+        None => Ok(Sequence::from_vec(Vec::new(alloc))),
         Some(value) => match value.as_table() {
             None => Err(PlanError::Field {
                 name: Key::UpdateRename,
             }),
-            Some(tables) => Ok(Entries::from_vec(read_tables(alloc, tables)?)),
+            Some(tables) => Ok(Sequence::from_vec(read_tables(alloc, tables)?)),
         },
     }
 }

@@ -10,7 +10,7 @@ ghost use Rattle.plan_file.specs.Updates.{settings_of, hold_of, hold_in, hold_at
 
 use crate::form::{TextForm, dangling, int};
 use crate::lookup::{copied, find, number_or, or_field, text};
-use crate::{Dangling, Entries, Key, PlanError};
+use crate::{Dangling, Key, PlanError, Sequence};
 use lu_base::Name;
 use std::alloc::Global;
 use toml::{Table, Value};
@@ -19,7 +19,7 @@ use toml::{Table, Value};
 #[derive(Debug, Drop)]
 pub struct Settings {
     pub filter: Name,
-    pub hold: Entries<i32>,
+    pub hold: Sequence<i32>,
     pub tries: u32,
     pub dangling: Dangling,
     pub gated: bool,
@@ -55,21 +55,21 @@ fn read_filter(alloc: Global, table: &Table) -> Result<Name, PlanError>
     }
 }
 
-fn read_hold(alloc: Global, table: &Table) -> Result<Entries<i32>, PlanError>
+fn read_hold(alloc: Global, table: &Table) -> Result<Sequence<i32>, PlanError>
     ensures { Reads (hold_of (get_member (codes "hold") (table_view table.now))) result }
 {
     match find(table, "hold") {
-        None => Ok(Entries::from_vec(Vec::new(alloc))),
+        None => Ok(Sequence::from_vec(Vec::new(alloc))),
         Some(value) => read_hold_list(alloc, value),
     }
 }
 
 #[tactic(auto, using(crate::proofs::Items::items))]
-fn read_hold_list(alloc: Global, value: &Value) -> Result<Entries<i32>, PlanError>
+fn read_hold_list(alloc: Global, value: &Value) -> Result<Sequence<i32>, PlanError>
     ensures { Reads (hold_in (view value.now)) result }
 {
     match value.as_array() {
-        Some(items) if items.len() <= 64 => Ok(Entries::from_vec(read_ints(alloc, items)?)),
+        Some(items) if items.len() <= 64 => Ok(Sequence::from_vec(read_ints(alloc, items)?)),
         _ => Err(PlanError::Field {
             name: Key::UpdateHold,
         }),
