@@ -3,8 +3,8 @@ use Rattle.std.proofs.Common.{◌≡◌, ◌∙◌, refl, sym, ap, subst, ℕ, t
 use Rattle.std.specs.Prelude.{IfOk, IfErr, IsTrue}
 use Rattle.c_types.specs.declared.parts.Parts.{Parts}
 use Rattle.c_ast.specs.Trees.{Declaration}
-use Rattle.src_model.specs.declared.program.Program.{Program}
-use Rattle.src_model.specs.ValidNames.{are_distinct}
+use Rattle.src_tree.specs.declared.program.Program.{Program}
+use Rattle.src_meaning.specs.ValidNames.{are_distinct}
 use Rattle.c_check_scope.specs.Rules.{has, IsLeast}
 use Rattle.c_check_table.specs.Tables.{types_of}
 use Rattle.c_check.specs.declared.standing.Standing.{Standing}

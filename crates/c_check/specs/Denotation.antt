@@ -4,8 +4,8 @@ use Rattle.c_types.specs.declared.parts.TheConstants.{POINTER_SIZE}
 use Rattle.c_types.specs.declared.parts.Parts.{Parts}
 use Rattle.c_types.specs.Refusal.{IsBuilt}
 use Rattle.c_ast.specs.Trees.{Declaration}
-use Rattle.src_model.specs.declared.program.Program.{Program}
-use Rattle.src_model.specs.ValidTable.{has_types}
+use Rattle.src_tree.specs.declared.program.Program.{Program}
+use Rattle.src_meaning.specs.ValidTable.{has_types}
 use Rattle.c_check_scope.specs.declared.scope.Scope.{Scope}
 use Rattle.c_check_scope.specs.Rules.{has, IsLeast}
 use Rattle.c_check_table.specs.Known.{knows_declarations}

@@ -4,9 +4,9 @@ use Rattle.c_types.specs.declared.parts.Parts.{Parts}
 use Rattle.c_types.specs.declared.parts.TagDef.{TagDef}
 use Rattle.c_ast.specs.declared.types.TagKind.{TagKind}
 use Rattle.c_ast.specs.declared.types.TagKind.TheVariants.{Struct, Union}
-use Rattle.src_model.specs.declared.program.Program.{Program}
-use Rattle.src_model.specs.declared.program.Global.{Global as Variable}
-use Rattle.src_model.specs.declared.program.Function.{Function as Procedure}
+use Rattle.src_tree.specs.declared.program.Program.{Program}
+use Rattle.src_tree.specs.declared.program.Global.{Global as Variable}
+use Rattle.src_tree.specs.declared.program.Function.{Function as Procedure}
 use Rattle.c_check_scope.specs.declared.scope.Scope.{Scope}
 use Rattle.c_check_scope.specs.declared.scope.Tag.{Tag}
 use Rattle.c_check_scope.specs.declared.scope.Meaning.{Meaning}

@@ -1,7 +1,7 @@
 -- What the error of a refused expression says.
 use Rattle.std.specs.Prelude.{◌≡◌, ⊤, ℕ, true}
 use Rattle.c_ast.specs.Trees.{Expression}
-use Rattle.src_model.specs.declared.program.Program.{Program}
+use Rattle.src_tree.specs.declared.program.Program.{Program}
 use Rattle.c_check_scope.specs.Rules.{IsLeast, breaks}
 use Rattle.c_check_expr.specs.Typing.{typed}
 use Rattle.c_check.specs.ProgramScope.{scope_of}

@@ -3,11 +3,11 @@ use Rattle.std.specs.Prelude.{ℕ, ◌+◌, true, false, List, [], ◌∷◌, �
 use Rattle.c_types.specs.declared.parts.TheConstants.{POINTER_SIZE}
 use Rattle.c_types.specs.declared.parts.Signature.{Signature}
 use Rattle.c_types.specs.Layout.{size_of}
-use Rattle.src_model.specs.declared.program.Init.{Zero}
-use Rattle.src_model.specs.declared.program.Global as Variable
-use Rattle.src_model.specs.declared.program.Function as Code
-use Rattle.src_model.specs.declared.program.Site.{Site}
-use Rattle.src_model.specs.declared.stmt.TypedStmt.{TypedStmt}
+use Rattle.src_tree.specs.declared.program.Init.{Zero}
+use Rattle.src_tree.specs.declared.program.Global as Variable
+use Rattle.src_tree.specs.declared.program.Function as Code
+use Rattle.src_tree.specs.declared.program.Site.{Site}
+use Rattle.src_tree.specs.declared.stmt.TypedStmt.{TypedStmt}
 use Rattle.c_check_scope.specs.declared.scope.Scope.{Scope}
 use Rattle.c_check_scope.specs.declared.scope.Meaning.{Meaning}
 use Rattle.c_check_scope.specs.declared.scope.Meaning.TheVariants.{Global}

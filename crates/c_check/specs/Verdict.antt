@@ -3,8 +3,8 @@ use Rattle.std.specs.Prelude.{ℕ, ◌+◌, Bool, true, false, ◌&&◌, List, [
 use Rattle.std.specs.Option.{option_map_or}
 use Rattle.c_types.specs.declared.parts.Parts.{Parts}
 use Rattle.c_ast.specs.Trees.{Text, Declaration}
-use Rattle.src_model.specs.declared.program.Function.{Function as Code}
-use Rattle.src_model.specs.declared.program.Program.{Program}
+use Rattle.src_tree.specs.declared.program.Function.{Function as Code}
+use Rattle.src_tree.specs.declared.program.Program.{Program}
 use Rattle.c_check_scope.specs.declared.scope.Scope.{Scope}
 use Rattle.c_check_scope.specs.declared.scope.Meaning.{Meaning}
 use Rattle.c_check_scope.specs.declared.scope.Meaning.TheVariants.{Function}

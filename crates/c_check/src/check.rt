@@ -3,7 +3,7 @@
 ghost use Rattle.std.specs.Prelude.{◌≡◌, IfOk, IfErr};
 ghost use Rattle.c_check_table.specs.Outlines as outlines;
 ghost use Rattle.c_ast.specs.Trees.{declarations};
-ghost use Rattle.src_model.specs.Valid.{IsValid};
+ghost use Rattle.src_meaning.specs.Valid.{IsValid};
 ghost use Rattle.c_check_decl.specs.Globals as globals;
 ghost use Rattle.c_check.specs.Verdict as spec;
 ghost use Rattle.c_check.specs.Denotation as denotation;
@@ -22,8 +22,8 @@ use c_check_table::tally::has_records;
 use c_check_table::texts::outline;
 use c_types::TypeTable;
 use sqlite_items::Items;
-use src_model::has_types;
-use src_model::program::Program;
+use src_model::{has_types, valid_where_distinct};
+use src_tree::program::Program;
 use std::alloc::{AllocError, Global};
 
 /// The scope before a text, with the types of a table.
@@ -186,7 +186,7 @@ pub fn check(alloc: Global, text: &[Decl]) -> Result<Program, CheckError>
             code: broken.rules.least(),
         }),
         Ok(program) => {
-            if program.valid_where_distinct() {
+            if valid_where_distinct(&program) {
                 Ok(program)
             } else {
                 Err(CheckError::Memory)

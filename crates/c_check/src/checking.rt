@@ -13,8 +13,8 @@ use c_check_expr::values::valued;
 use c_check_scope::checked::Checked;
 use c_check_scope::error::CheckError;
 use sqlite_items::Boxed;
-use src_model::expr::TypedExpr;
-use src_model::program::Program;
+use src_tree::expr::TypedExpr;
+use src_tree::program::Program;
 use std::alloc::{AllocError, Global};
 
 fn typed(

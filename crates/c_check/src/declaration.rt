@@ -10,7 +10,7 @@ use crate::objects::{declared_global, declared_record};
 use crate::standing::{Functions, Standing};
 use c_ast::decl::Decl;
 use c_check_scope::checked::Checked;
-use src_model::program::Program;
+use src_tree::program::Program;
 use std::alloc::{AllocError, Global};
 
 /// What stands after a declaration of a text, or the rules that it breaks.

@@ -8,8 +8,8 @@ use c_check_scope::numbers::as_number;
 use c_check_stmt::bodies::Body;
 use c_types::{Signature, TyId};
 use sqlite_items::Items;
-use src_model::program::{Function, Site};
-use src_model::stmt::TypedStmt;
+use src_tree::program::{Function, Site};
+use src_tree::stmt::TypedStmt;
 use std::alloc::{AllocError, Global};
 
 /// A function with these locals and statements.

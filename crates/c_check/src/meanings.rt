@@ -11,7 +11,7 @@ use c_check_scope::types::Types;
 use c_types::{Sequence, Signature};
 use lu_base::Name;
 use sqlite_items::Items;
-use src_model::program::{Function, Global as Variable, Program};
+use src_tree::program::{Function, Global as Variable, Program};
 use std::alloc::{AllocError, Global};
 
 fn nothing_yet(alloc: Global, count: usize) -> Result<Items<Option<Meaning>>, AllocError>

@@ -6,7 +6,7 @@ ghost use Rattle.c_check.specs.ProgramScope as spec;
 
 use c_check_scope::names::Names;
 use lu_base::Name;
-use src_model::program::Program;
+use src_tree::program::Program;
 use std::alloc::{AllocError, Global};
 
 fn add_names(names: &mut Names, alloc: Global, more: &[Name]) -> Result<(), AllocError>

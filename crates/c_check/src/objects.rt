@@ -20,7 +20,7 @@ use c_check_table::scoping::declare_tag;
 use c_types::GREATEST;
 use lu_base::Name;
 use sqlite_items::Boxed;
-use src_model::program::Program;
+use src_tree::program::Program;
 use std::alloc::{AllocError, Global};
 
 #[tactic(auto, unfolding(crate::specs::Objects::new_tag))]

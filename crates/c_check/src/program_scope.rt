@@ -10,7 +10,7 @@ use c_check_scope::names::Names;
 use c_check_scope::scope::Scope;
 use c_check_scope::types::Types;
 use sqlite_items::Items;
-use src_model::program::Program;
+use src_tree::program::Program;
 use std::alloc::{AllocError, Global};
 
 #[tactic(auto, unfolding(crate::specs::ProgramScope::scope_named))]

@@ -9,7 +9,7 @@ use c_check_scope::scope::{Meaning, Scope, set_meaning};
 use c_check_table::predeclared::message_type;
 use c_types::{TyId, TypeTable};
 use sqlite_items::Items;
-use src_model::program::{Function, Global as Variable, Init, Site};
+use src_tree::program::{Function, Global as Variable, Init, Site};
 use std::alloc::{AllocError, Global};
 
 /// The functions of a text, by the numbers of their names.

@@ -13,7 +13,7 @@ use c_check_scope::rules::Rules;
 use c_check_scope::scope::Meaning;
 use lu_base::Name;
 use sqlite_items::at;
-use src_model::program::{Function, Program};
+use src_tree::program::{Function, Program};
 use std::alloc::{AllocError, Global};
 
 /// A declaration that breaks a rule.

@@ -7,12 +7,12 @@ use Rattle.c_types.specs.declared.parts.TheConstants.{POINTER_SIZE}
 use Rattle.c_types.specs.declared.parts.Parts.{Parts}
 use Rattle.c_types.specs.Layout.{shape_of}
 use Rattle.c_ast.specs.Trees.{Text, Expression, Num, Char, Var, Paren, Size, At, Part, Prefix, Convert, Op, Cond, Object, Initializer, Single, Bytes, Braces, Initializers, NoMore, Next}
-use Rattle.src_model.specs.declared.expr.TypedExpr.{TypedExpr}
-use Rattle.src_model.specs.declared.program.Init.{Init, Zero, One, Text as Text_init, List as Listed}
-use Rattle.src_model.specs.declared.program.Program.{Program}
-use Rattle.src_model.specs.Constant.{is_address_constant, constant_value, if_ok}
-use Rattle.src_model.specs.Initial.{initial_scope}
-use Rattle.src_model.specs.ValidInitialiser.{takes_bytes, item_type}
+use Rattle.src_tree.specs.declared.expr.TypedExpr.{TypedExpr}
+use Rattle.src_tree.specs.declared.program.Init.{Init, Zero, One, Text as Text_init, List as Listed}
+use Rattle.src_tree.specs.declared.program.Program.{Program}
+use Rattle.src_meaning.specs.Constant.{is_address_constant, constant_value, if_ok}
+use Rattle.src_meaning.specs.Initial.{initial_scope}
+use Rattle.src_meaning.specs.ValidInitialiser.{takes_bytes, item_type}
 use Rattle.c_check_scope.specs.declared.scope.Scope.{Scope}
 use Rattle.c_check_scope.specs.declared.rule.Rule.TheVariants.{Undeclared, Initialiser}
 use Rattle.c_check_scope.specs.Rules.{Rules, Checked, both, broken, only, union}

@@ -1,15 +1,15 @@
 // What a scalar global may begin with.
 
 ghost use Rattle.std.specs.Prelude.{◌≡◌, IfOk, is_some};
-ghost use Rattle.src_model.specs.Constant as constant;
-ghost use Rattle.src_model.specs.Initial.{initial_scope};
+ghost use Rattle.src_meaning.specs.Constant as constant;
+ghost use Rattle.src_meaning.specs.Initial.{initial_scope};
 ghost use Rattle.c_check_decl.specs.Globals as spec;
 
 use c_types::TypeTable;
 use sqlite_items::Items;
 use src_model::constant::evaluate;
-use src_model::expr::{ExprKind, PlaceKind, TypedExpr, TypedPlace};
-use src_model::program::Program;
+use src_tree::expr::{ExprKind, PlaceKind, TypedExpr, TypedPlace};
+use src_tree::program::Program;
 use std::alloc::{AllocError, Global};
 
 /// A program of these types alone, in which integer constants have their values.

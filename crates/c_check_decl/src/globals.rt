@@ -13,7 +13,7 @@ use c_check_scope::rules::Rules;
 use c_check_scope::scope::Scope;
 use c_types::TyId;
 use sqlite_items::Boxed;
-use src_model::program::{Init, Program};
+use src_tree::program::{Init, Program};
 use std::alloc::{AllocError, Global};
 
 /// A global that keeps the rules.

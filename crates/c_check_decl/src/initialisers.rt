@@ -2,7 +2,7 @@
 
 ghost use Rattle.std.specs.Prelude.{◌≡◌, IfOk, [], Some, Ok};
 ghost use Rattle.c_ast.specs.Trees.{expression, initializer, initializers};
-ghost use Rattle.src_model.specs.ValidInitialiser as valid;
+ghost use Rattle.src_meaning.specs.ValidInitialiser as valid;
 ghost use Rattle.c_check_scope.specs.Rules as checks;
 ghost use Rattle.c_check_expr.specs.Typing.{typed};
 ghost use Rattle.c_check_decl.specs.Globals as spec;
@@ -18,7 +18,7 @@ use c_check_scope::rules::Rules;
 use c_check_scope::scope::Scope;
 use c_types::{Parts, Ty, TyId};
 use sqlite_items::Items;
-use src_model::program::{Init, Program};
+use src_tree::program::{Init, Program};
 use std::alloc::{AllocError, Global};
 
 fn unfit_value(alloc: Global, scope: &Scope, rules: Rules, e: &Expr) -> Result<Rules, AllocError>

@@ -2,7 +2,7 @@
 
 ghost use Rattle.std.specs.Prelude.{◌≡◌, IfOk, length};
 ghost use Rattle.c_ast.specs.Trees.{expression};
-ghost use Rattle.src_model.specs.ValidInitialiser as valid;
+ghost use Rattle.src_meaning.specs.ValidInitialiser as valid;
 ghost use Rattle.c_check_decl.specs.Globals as spec;
 
 use crate::constants::is_start_value;
@@ -16,8 +16,8 @@ use c_check_scope::scope::Scope;
 use c_types::{IntKind, Parts, Ty, TyId};
 use lu_base::{Bytes8, Name};
 use sqlite_items::Boxed;
-use src_model::expr::TypedExpr;
-use src_model::program::{Init, Program};
+use src_tree::expr::TypedExpr;
+use src_tree::program::{Init, Program};
 use std::alloc::{AllocError, Global};
 
 /// The signature of a function of the text.

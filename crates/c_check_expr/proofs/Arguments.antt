@@ -4,7 +4,7 @@ use Rattle.std.specs.Prelude.{MatchOption}
 use Rattle.std.specs.Option.{option_map, option_copied}
 use Rattle.c_ast.specs.declared.expr.Expr.{Expr}
 use Rattle.c_ast.specs.Trees.{Expression, expression, expressions}
-use Rattle.src_model.specs.declared.expr.TypedExpr.{TypedExpr}
+use Rattle.src_tree.specs.declared.expr.TypedExpr.{TypedExpr}
 use Rattle.c_check_scope.specs.declared.scope.Scope.{Scope}
 use Rattle.c_check_scope.specs.Rules.{Checked}
 use Rattle.c_check_expr.specs.Calls.{argument_at, more, gathered_after, front}

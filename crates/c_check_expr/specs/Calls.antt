@@ -6,9 +6,9 @@ use Rattle.c_types.specs.declared.parts.Ty.TheVariants as T
 use Rattle.c_types.specs.declared.parts.Parts.{Parts}
 use Rattle.c_types.specs.declared.parts.Signature.{Signature}
 use Rattle.c_ast.specs.Trees.{Expression, Paren, Size}
-use Rattle.src_model.specs.declared.expr.TypedExpr.{TypedExpr}
-use Rattle.src_model.specs.declared.stmt.Callee.{Callee as Node}
-use Rattle.src_model.specs.declared.stmt.Callee.TheVariants as N
+use Rattle.src_tree.specs.declared.expr.TypedExpr.{TypedExpr}
+use Rattle.src_tree.specs.declared.stmt.Callee.{Callee as Node}
+use Rattle.src_tree.specs.declared.stmt.Callee.TheVariants as N
 use Rattle.c_check_scope.specs.Kinds.{signature_of}
 use Rattle.c_check_scope.specs.Operations.{int_type, long_type}
 use Rattle.c_check_scope.specs.Conversions.{converts}

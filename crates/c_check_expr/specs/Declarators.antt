@@ -10,7 +10,7 @@ use Rattle.c_ast.specs.declared.types.BaseType.{BaseType}
 use Rattle.c_ast.specs.declared.types.BaseType.TheVariants as B
 use Rattle.c_ast.specs.declared.types.TypeName.{TypeName}
 use Rattle.c_ast.specs.Trees.{Parameter, Plain, Function, Parameters, NoParameter, Also, Object, Data, Pointer}
-use Rattle.src_model.specs.Store.{same_result, same_numbers}
+use Rattle.src_tree.specs.Signatures.{same_result, same_numbers}
 use Rattle.c_check_scope.specs.Kinds.{is_scalar}
 use Rattle.c_check_scope.specs.declared.scope.Scope.{Scope}
 use Rattle.c_check_scope.specs.declared.rule.Rule.TheVariants.{ArrayLength, NotScalar, TooManyLocals}

@@ -4,10 +4,10 @@ use Rattle.lu_spec.specs.Then.{then_do}
 use Rattle.c_types.specs.declared.parts.Ty.{Ty}
 use Rattle.c_types.specs.declared.parts.Ty.TheVariants as T
 use Rattle.c_types.specs.declared.parts.Parts.{Parts}
-use Rattle.src_model.specs.declared.expr.TypedExpr.{TypedExpr}
-use Rattle.src_model.specs.declared.expr.TypedPlace.{TypedPlace}
-use Rattle.src_model.specs.declared.expr.ExprKind.{ExprKind}
-use Rattle.src_model.specs.declared.expr.ExprKind as E
+use Rattle.src_tree.specs.declared.expr.TypedExpr.{TypedExpr}
+use Rattle.src_tree.specs.declared.expr.TypedPlace.{TypedPlace}
+use Rattle.src_tree.specs.declared.expr.ExprKind.{ExprKind}
+use Rattle.src_tree.specs.declared.expr.ExprKind as E
 use Rattle.c_check_scope.specs.declared.operand.Operand.{Operand}
 use Rattle.c_check_scope.specs.Numbers.{number_of}
 use Rattle.c_check_scope.specs.Kinds.{element_of}

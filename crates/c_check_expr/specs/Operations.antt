@@ -4,11 +4,11 @@ use Rattle.lu_spec.specs.Then.{then_do}
 use Rattle.c_types.specs.declared.parts.Ty.{Ty}
 use Rattle.c_types.specs.declared.parts.Parts.{Parts}
 use Rattle.c_ast.specs.declared.expr.BinaryOperator.{BinaryOperator}
-use Rattle.src_model.specs.declared.expr.TypedExpr.{TypedExpr}
-use Rattle.src_model.specs.declared.expr.UnaryOperator.{UnaryOperator}
-use Rattle.src_model.specs.declared.expr.UnaryOperator.TheVariants.{Not}
-use Rattle.src_model.specs.declared.expr.ExprKind.{ExprKind}
-use Rattle.src_model.specs.declared.expr.ExprKind as E
+use Rattle.src_tree.specs.declared.expr.TypedExpr.{TypedExpr}
+use Rattle.src_tree.specs.declared.expr.UnaryOperator.{UnaryOperator}
+use Rattle.src_tree.specs.declared.expr.UnaryOperator.TheVariants.{Not}
+use Rattle.src_tree.specs.declared.expr.ExprKind.{ExprKind}
+use Rattle.src_tree.specs.declared.expr.ExprKind as E
 use Rattle.c_check_scope.specs.declared.operation.Node.{Node}
 use Rattle.c_check_scope.specs.declared.operation.Node.TheVariants as N
 use Rattle.c_check_scope.specs.declared.operation.Operation.{Operation}

@@ -8,11 +8,11 @@ use Rattle.c_types.specs.declared.parts.Parts.{Parts}
 use Rattle.c_ast.specs.declared.expr.UnaryOperator.{UnaryOperator}
 use Rattle.c_ast.specs.declared.expr.UnaryOperator.TheVariants.{Dereference}
 use Rattle.c_ast.specs.Trees.{Expression, Num, Char, Var, Paren, Size, At, Part as Member, Prefix, Convert, Op, Cond}
-use Rattle.src_model.specs.declared.expr.TypedExpr.{TypedExpr}
-use Rattle.src_model.specs.declared.expr.TypedPlace.{TypedPlace}
-use Rattle.src_model.specs.declared.expr.ExprKind as E
-use Rattle.src_model.specs.declared.expr.PlaceKind.{PlaceKind}
-use Rattle.src_model.specs.declared.expr.PlaceKind as P
+use Rattle.src_tree.specs.declared.expr.TypedExpr.{TypedExpr}
+use Rattle.src_tree.specs.declared.expr.TypedPlace.{TypedPlace}
+use Rattle.src_tree.specs.declared.expr.ExprKind as E
+use Rattle.src_tree.specs.declared.expr.PlaceKind.{PlaceKind}
+use Rattle.src_tree.specs.declared.expr.PlaceKind as P
 use Rattle.c_check_scope.specs.declared.members.Part.{Part}
 use Rattle.c_check_scope.specs.Kinds.{kind_of, element_of, target_of as target_in}
 use Rattle.c_check_scope.specs.Operations.{long_type}

@@ -21,10 +21,10 @@ use Rattle.c_ast.specs.declared.expr.Access.TheVariants.{Dot, Arrow}
 use Rattle.c_ast.specs.declared.expr.UnaryOperator.{UnaryOperator}
 use Rattle.c_ast.specs.declared.expr.UnaryOperator.TheVariants.{Negate, Complement, Not, Dereference, AddressOf}
 use Rattle.c_ast.specs.Trees.{Expression, Num, Char, Var, Paren, Size, At, Part, Prefix, Convert, Op, Cond}
-use Rattle.src_model.specs.declared.expr.TypedExpr.{TypedExpr}
-use Rattle.src_model.specs.declared.expr.UnaryOperator.TheVariants as M
-use Rattle.src_model.specs.declared.expr.ExprKind as E
-use Rattle.src_model.specs.declared.expr.PlaceKind as P
+use Rattle.src_tree.specs.declared.expr.TypedExpr.{TypedExpr}
+use Rattle.src_tree.specs.declared.expr.UnaryOperator.TheVariants as M
+use Rattle.src_tree.specs.declared.expr.ExprKind as E
+use Rattle.src_tree.specs.declared.expr.PlaceKind as P
 use Rattle.c_check_scope.specs.Operations.{int_type}
 use Rattle.c_check_expr.specs.declared.denoted.Denoted.{Denoted}
 use Rattle.c_check_expr.specs.declared.denoted.Denoted.TheVariants as D

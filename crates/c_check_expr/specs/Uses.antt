@@ -3,8 +3,8 @@ use Rattle.std.specs.Prelude.{ℕ, Bool, false, ◌&&◌, Option, Some, None, Ok
 use Rattle.lu_spec.specs.Then.{then_do}
 use Rattle.c_types.specs.declared.parts.Parts.{Parts}
 use Rattle.c_ast.specs.Trees.{Expression}
-use Rattle.src_model.specs.declared.expr.TypedExpr.{TypedExpr}
-use Rattle.src_model.specs.declared.expr.TypedPlace.{TypedPlace}
+use Rattle.src_tree.specs.declared.expr.TypedExpr.{TypedExpr}
+use Rattle.src_tree.specs.declared.expr.TypedPlace.{TypedPlace}
 use Rattle.c_check_scope.specs.Kinds.{is_record, element_of}
 use Rattle.c_check_scope.specs.Conversions.{converts}
 use Rattle.c_check_expr.specs.declared.denoted.Denoted.{Denoted}

@@ -21,8 +21,8 @@ use c_check_scope::scope::{BuiltIn, Scope};
 use c_check_scope::types::Types;
 use c_types::{IntKind, Ty, TyId};
 use sqlite_items::{Boxed, Items, at};
-use src_model::expr::TypedExpr;
-use src_model::stmt::{Call, Callee};
+use src_tree::expr::TypedExpr;
+use src_tree::stmt::{Call, Callee};
 use std::alloc::{AllocError, Global};
 
 /// Where a call stands.

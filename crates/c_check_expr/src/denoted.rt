@@ -7,7 +7,7 @@ use c_check_scope::checked::Checked;
 use c_check_scope::scope::BuiltIn;
 use c_types::TyId;
 use sqlite_items::Boxed;
-use src_model::expr::{TypedExpr, TypedPlace};
+use src_tree::expr::{TypedExpr, TypedPlace};
 
 /// What an expression denotes.
 #[derive(Drop)]

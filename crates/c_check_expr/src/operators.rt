@@ -16,7 +16,7 @@ use c_check_scope::rules::Rules;
 use c_check_scope::types::Types;
 use c_types::TyId;
 use sqlite_items::Boxed;
-use src_model::expr::{ExprKind, TypedExpr, UnaryOperator};
+use src_tree::expr::{ExprKind, TypedExpr, UnaryOperator};
 use std::alloc::{AllocError, Global};
 
 /// The branches of a `?:` in one type.

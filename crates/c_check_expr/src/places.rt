@@ -20,7 +20,7 @@ use c_check_scope::types::Types;
 use c_types::{Ty, TyId};
 use lu_base::Name;
 use sqlite_items::Boxed;
-use src_model::expr::{ExprKind, PlaceKind, TypedExpr, TypedPlace};
+use src_tree::expr::{ExprKind, PlaceKind, TypedExpr, TypedPlace};
 use std::alloc::{AllocError, Global};
 
 /// What `[ ]` goes into, with the number of its elements' type.

@@ -6,7 +6,7 @@ ghost use Rattle.c_check_expr.specs.Declarators as spec;
 use c_check_scope::checked::Checked;
 use c_check_scope::types::Types;
 use c_types::{Signature, Ty, TyId};
-use src_model::signatures::{same_numbers, same_result};
+use src_tree::signatures::{same_numbers, same_result};
 
 /// Whether two signatures are equal.
 pub fn same_signature(a: &Signature, b: &Signature) -> bool

@@ -20,7 +20,7 @@ use c_check_scope::types::Types;
 use c_types::{IntKind, Ty, TyId};
 use lu_base::Name;
 use sqlite_items::Boxed;
-use src_model::expr::{ExprKind, PlaceKind, TypedExpr, TypedPlace, UnaryOperator as Operator};
+use src_tree::expr::{ExprKind, PlaceKind, TypedExpr, TypedPlace, UnaryOperator as Operator};
 use std::alloc::{AllocError, Global};
 
 #[tactic(auto, unfolding(crate::specs::Typing::number_kind))]

@@ -19,7 +19,7 @@ use c_check_scope::scope::Scope;
 use c_check_scope::types::Types;
 use c_types::TyId;
 use sqlite_items::Boxed;
-use src_model::expr::{TypedExpr, TypedPlace};
+use src_tree::expr::{TypedExpr, TypedPlace};
 use std::alloc::{AllocError, Global};
 
 /// The left side of an assignment.

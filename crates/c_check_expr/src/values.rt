@@ -13,7 +13,7 @@ use c_check_scope::rules::Rules;
 use c_check_scope::types::Types;
 use c_types::{Ty, TyId};
 use sqlite_items::Boxed;
-use src_model::expr::{ExprKind, TypedExpr, TypedPlace};
+use src_tree::expr::{ExprKind, TypedExpr, TypedPlace};
 use std::alloc::{AllocError, Global};
 
 /// The type of a number; `int` where there is no such type.

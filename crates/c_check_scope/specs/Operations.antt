@@ -7,10 +7,10 @@ use Rattle.c_types.specs.declared.parts.Ty.{Ty}
 use Rattle.c_types.specs.declared.parts.Ty.TheVariants.{Int, Pointer}
 use Rattle.c_ast.specs.declared.expr.BinaryOperator.{BinaryOperator}
 use Rattle.c_ast.specs.declared.expr.BinaryOperator.TheVariants as A
-use Rattle.src_model.specs.declared.expr.BinaryOperator.{BinaryOperator as Node_operator}
-use Rattle.src_model.specs.declared.expr.BinaryOperator.TheVariants as M
-use Rattle.src_model.specs.declared.expr.LogicalOperator.{LogicalOperator}
-use Rattle.src_model.specs.declared.expr.LogicalOperator.TheVariants as L
+use Rattle.src_tree.specs.declared.expr.BinaryOperator.{BinaryOperator as Node_operator}
+use Rattle.src_tree.specs.declared.expr.BinaryOperator.TheVariants as M
+use Rattle.src_tree.specs.declared.expr.LogicalOperator.{LogicalOperator}
+use Rattle.src_tree.specs.declared.expr.LogicalOperator.TheVariants as L
 use Rattle.c_check_scope.specs.declared.operand.Operand.{Operand}
 use Rattle.c_check_scope.specs.declared.operation.Node.{Node}
 use Rattle.c_check_scope.specs.declared.operation.Node.TheVariants.{Binary, Logical}

@@ -7,7 +7,7 @@ use crate::kinds::is_scalar;
 use crate::operand::{Operand, common_type, compared, ordered, promoted_type};
 use c_ast::expr::BinaryOperator;
 use c_types::{IntKind, Ty};
-use src_model::expr::{BinaryOperator as Operator, LogicalOperator};
+use src_tree::expr::{BinaryOperator as Operator, LogicalOperator};
 
 /// The type `int`, which comparisons give.
 pub const INT: Ty = Ty::Int(IntKind::Int);

@@ -2,7 +2,7 @@
 use Rattle.std.specs.Prelude.{ℕ, nat_lt, false, List, [], length, Option, Ok, Err, if◌then◌else◌}
 use Rattle.lu_spec.specs.Then.{then_do}
 use Rattle.c_ast.specs.Trees.{Parameters, Statements}
-use Rattle.src_model.specs.declared.stmt.TypedStmt.{TypedStmt}
+use Rattle.src_tree.specs.declared.stmt.TypedStmt.{TypedStmt}
 use Rattle.c_check_scope.specs.declared.scope.Scope.{Scope}
 use Rattle.c_check_scope.specs.declared.rule.Rule.TheVariants.{TooManyLocals}
 use Rattle.c_check_scope.specs.Rules.{Checked, both, only}

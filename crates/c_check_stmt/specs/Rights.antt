@@ -3,8 +3,8 @@ use Rattle.std.specs.Prelude.{ℕ, ◌+◌, List, [], ◌∷◌, ◌++◌, lengt
 use Rattle.lu_spec.specs.Then.{then_do}
 use Rattle.c_types.specs.declared.parts.Parts.{Parts}
 use Rattle.c_ast.specs.Trees.{Expression, Right, Invoke, Value}
-use Rattle.src_model.specs.declared.stmt.Rhs.{Rhs}
-use Rattle.src_model.specs.declared.stmt.Rhs.TheVariants as R
+use Rattle.src_tree.specs.declared.stmt.Rhs.{Rhs}
+use Rattle.src_tree.specs.declared.stmt.Rhs.TheVariants as R
 use Rattle.c_check_scope.specs.declared.scope.Scope.{Scope}
 use Rattle.c_check_expr.specs.declared.calls.Position.{Position}
 use Rattle.c_check_expr.specs.declared.calls.Invocation.{Invocation}

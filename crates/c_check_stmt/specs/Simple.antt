@@ -2,10 +2,10 @@
 use Rattle.std.specs.Prelude.{ℕ, Bool, true, false, List, [], ◌∷◌, ◌++◌, Option, Some, None, Ok, Err}
 use Rattle.lu_spec.specs.Then.{then_do}
 use Rattle.c_ast.specs.Trees.{Text, Parameter, Expression, Right, Setting}
-use Rattle.src_model.specs.declared.expr.TypedExpr.{TypedExpr}
-use Rattle.src_model.specs.declared.stmt.Rhs.{Rhs}
-use Rattle.src_model.specs.declared.stmt.TypedStmt.{TypedStmt}
-use Rattle.src_model.specs.declared.stmt.TypedStmt as T
+use Rattle.src_tree.specs.declared.expr.TypedExpr.{TypedExpr}
+use Rattle.src_tree.specs.declared.stmt.Rhs.{Rhs}
+use Rattle.src_tree.specs.declared.stmt.TypedStmt.{TypedStmt}
+use Rattle.src_tree.specs.declared.stmt.TypedStmt as T
 use Rattle.c_check_scope.specs.declared.scope.Scope.{Scope}
 use Rattle.c_check_expr.specs.declared.calls.Position.TheVariants.{Statement, RightSide, Return}
 use Rattle.c_check_expr.specs.declared.uses.Assigned.{Assigned}

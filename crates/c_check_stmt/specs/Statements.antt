@@ -2,9 +2,9 @@
 use Rattle.std.specs.Prelude.{Bool, true, List, [], ◌∷◌, ◌++◌, Option, Ok}
 use Rattle.lu_spec.specs.Then.{then_do}
 use Rattle.c_ast.specs.Trees.{Statement, Statements, Block, Empty, Local, Assign, Call, If, IfElse, While, For, Break, Continue, Return, Done, Then}
-use Rattle.src_model.specs.declared.expr.TypedExpr.{TypedExpr}
-use Rattle.src_model.specs.declared.stmt.TypedStmt.{TypedStmt}
-use Rattle.src_model.specs.declared.stmt.TypedStmt as T
+use Rattle.src_tree.specs.declared.expr.TypedExpr.{TypedExpr}
+use Rattle.src_tree.specs.declared.stmt.TypedStmt.{TypedStmt}
+use Rattle.src_tree.specs.declared.stmt.TypedStmt as T
 use Rattle.c_check_expr.specs.declared.calls.Position.TheVariants as P
 use Rattle.c_check_scope.specs.Rules.{Checked, both}
 use Rattle.c_check_expr.specs.Uses.{condition}

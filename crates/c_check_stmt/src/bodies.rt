@@ -4,7 +4,7 @@ use c_check_scope::checked::Checked;
 use c_check_scope::scope::Scope;
 use c_types::TyId;
 use sqlite_items::Items;
-use src_model::stmt::TypedStmt;
+use src_tree::stmt::TypedStmt;
 
 /// The body of a function.
 #[derive(Drop)]

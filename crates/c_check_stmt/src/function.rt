@@ -17,7 +17,7 @@ use c_check_scope::rules::Rules;
 use c_check_scope::scope::Scope;
 use c_types::TyId;
 use sqlite_items::Items;
-use src_model::stmt::TypedStmt;
+use src_tree::stmt::TypedStmt;
 use std::alloc::{AllocError, Global};
 
 /// The parameters and locals that a function may have.

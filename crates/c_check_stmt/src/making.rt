@@ -6,8 +6,8 @@ ghost use Rattle.c_check_stmt.specs.Statements as spec;
 use crate::simple::{boxed, single};
 use c_check_scope::checked::{Checked, both};
 use sqlite_items::{Boxed, Items};
-use src_model::expr::TypedExpr;
-use src_model::stmt::TypedStmt;
+use src_tree::expr::TypedExpr;
+use src_tree::stmt::TypedStmt;
 use std::alloc::{AllocError, Global};
 
 /// What stands between the parentheses of a `for`.

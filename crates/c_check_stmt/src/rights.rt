@@ -16,7 +16,7 @@ use c_check_scope::scope::Scope;
 use c_check_scope::types::Types;
 use c_types::TyId;
 use sqlite_items::Items;
-use src_model::stmt::Rhs;
+use src_tree::stmt::Rhs;
 use std::alloc::{AllocError, Global};
 
 #[tactic(auto, unfolding(crate::specs::Rights::and_site))]

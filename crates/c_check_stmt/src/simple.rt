@@ -22,8 +22,8 @@ use c_check_scope::scope::Scope;
 use c_types::TyId;
 use lu_base::Name;
 use sqlite_items::{Boxed, Items};
-use src_model::expr::TypedExpr;
-use src_model::stmt::{Rhs, TypedStmt};
+use src_tree::expr::TypedExpr;
+use src_tree::stmt::{Rhs, TypedStmt};
 use std::alloc::{AllocError, Global};
 
 /// A statement on the heap.

@@ -20,8 +20,8 @@ use c_check_expr::uses::condition;
 use c_check_scope::checked::{Checked, both};
 use c_check_scope::scope::Scope;
 use sqlite_items::{Boxed, Items};
-use src_model::expr::TypedExpr;
-use src_model::stmt::TypedStmt;
+use src_tree::expr::TypedExpr;
+use src_tree::stmt::TypedStmt;
 use std::alloc::{AllocError, Global};
 
 /// A statement, inside a loop or not.

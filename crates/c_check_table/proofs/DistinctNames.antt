@@ -6,7 +6,7 @@ use Rattle.std.specs.Prelude.{not}
 use Rattle.std.specs.List.{list_any}
 use Rattle.std.specs.Str.{bytes_eq}
 use Rattle.c_ast.specs.Trees.{Declaration}
-use Rattle.src_model.specs.ValidNames.{are_distinct}
+use Rattle.src_meaning.specs.ValidNames.{are_distinct}
 use Rattle.c_check_scope.specs.Names.{Text}
 use Rattle.c_check_table.specs.Outlines.{outline}
 use Rattle.c_types.proofs.Lists.{and_right}

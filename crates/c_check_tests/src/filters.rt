@@ -9,7 +9,7 @@ use c_types::{
 };
 use lu_base::Name;
 use sqlite_items::Items;
-use src_model::program::{Function, Global as Variable, Init, Program};
+use src_tree::program::{Function, Global as Variable, Init, Program};
 use std::alloc::{AllocError, Global};
 use std::test::Fail;
 

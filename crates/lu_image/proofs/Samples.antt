@@ -6,11 +6,11 @@ use Rattle.c_types.specs.declared.parts.TagDef.{TagDef}
 use Rattle.c_types.specs.declared.parts.FieldDef.{FieldDef}
 use Rattle.c_types.specs.declared.parts.Ty.TheVariants as T
 use Rattle.c_types.specs.declared.parts.IntKind.TheVariants as K
-use Rattle.src_model.specs.declared.program.Init.TheVariants.{Zero}
-use Rattle.src_model.specs.declared.program.Global as G
-use Rattle.src_model.specs.declared.program.Function.{Function}
-use Rattle.src_model.specs.declared.program.Site.{Site}
-use Rattle.src_model.specs.declared.program.Program.{Program}
+use Rattle.src_tree.specs.declared.program.Init.TheVariants.{Zero}
+use Rattle.src_tree.specs.declared.program.Global as G
+use Rattle.src_tree.specs.declared.program.Function.{Function}
+use Rattle.src_tree.specs.declared.program.Site.{Site}
+use Rattle.src_tree.specs.declared.program.Program.{Program}
 use Rattle.lu_image.specs.declared.rename.Table.{Table}
 use Rattle.lu_image.specs.declared.rename.Rename.{Rename}
 

@@ -5,8 +5,8 @@ use Rattle.std.specs.Str.{bytes_eq}
 use Rattle.std.specs.Fmt.{decimal}
 use Rattle.c_types.specs.declared.parts.TagDef.{TagDef}
 use Rattle.c_types.specs.declared.parts.FieldDef.{FieldDef}
-use Rattle.src_model.specs.declared.program.Program.{Program}
-use Rattle.src_model.specs.declared.program.Site.{Site}
+use Rattle.src_tree.specs.declared.program.Program.{Program}
+use Rattle.src_tree.specs.declared.program.Site.{Site}
 
 -- the names of entries in order; one whose number names no text has none
 abbrev pub Names : Type 0

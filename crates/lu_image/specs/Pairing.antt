@@ -5,8 +5,8 @@ use Rattle.lu_spec.specs.Then.{then_option}
 use Rattle.c_types.specs.declared.parts.TagDef.{TagDef}
 use Rattle.c_types.specs.declared.parts.FieldDef.{FieldDef}
 use Rattle.c_types.specs.Tables.{fields_in}
-use Rattle.src_model.specs.declared.program.Program.{Program}
-use Rattle.src_model.specs.declared.program.Site.{Site}
+use Rattle.src_tree.specs.declared.program.Program.{Program}
+use Rattle.src_tree.specs.declared.program.Site.{Site}
 use Rattle.lu_image.specs.declared.rename.Table.{Table}
 use Rattle.lu_image.specs.declared.rename.Table.TheVariants as T
 use Rattle.lu_image.specs.declared.rename.Rename.{Rename}

@@ -6,8 +6,8 @@ use Rattle.c_types.specs.declared.parts.Ty.{Ty}
 use Rattle.c_types.specs.declared.parts.Ty.TheVariants.{Pointer, Struct}
 use Rattle.c_types.specs.declared.parts.Parts.{Parts}
 use Rattle.c_types.specs.declared.parts.Signature.{Signature}
-use Rattle.src_model.specs.declared.program.Program.{Program}
-use Rattle.src_model.specs.Valid.{IsValid}
+use Rattle.src_tree.specs.declared.program.Program.{Program}
+use Rattle.src_meaning.specs.Valid.{IsValid}
 use Rattle.lu_image.specs.declared.rename.Rename.{Rename}
 use Rattle.lu_image.specs.declared.pairing.Pairing.{Pairing}
 use Rattle.lu_image.specs.declared.handler.Handler.{Handler}

@@ -2,7 +2,7 @@
 use Rattle.std.specs.Prelude.{ℕ, Bool, false, ◌||◌, not, if◌then◌else◌, List, [], ◌∷◌, ◌++◌, map, is_some, Option, Some, None, Result, Ok, Err, slice_get, codes}
 use Rattle.std.specs.Str.{bytes_eq}
 use Rattle.c_types.specs.declared.parts.TagDef.{TagDef}
-use Rattle.src_model.specs.declared.program.Program.{Program}
+use Rattle.src_tree.specs.declared.program.Program.{Program}
 use Rattle.lu_image.specs.declared.rename.Table.{Table}
 use Rattle.lu_image.specs.declared.rename.Table.TheVariants as T
 use Rattle.lu_image.specs.declared.rename.Rename.{Rename}

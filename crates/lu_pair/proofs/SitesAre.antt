@@ -2,8 +2,8 @@
 use Rattle.std.proofs.Common.{◌≡◌, ◌∙◌, sym, ap, subst, refl, ℕ, zero, suc, ◌+◌, ◌<◌, ◌^◌, List, [], ◌∷◌, length, map, Option, slice_get, arith}
 use Rattle.std.proofs.lemmas.List.{length-map}
 use Rattle.lu_spec.specs.Then.{then_option}
-use Rattle.src_model.specs.declared.program.Program.{Program}
-use Rattle.src_model.specs.declared.program.Site.{Site}
+use Rattle.src_tree.specs.declared.program.Program.{Program}
+use Rattle.src_tree.specs.declared.program.Site.{Site}
 use Rattle.lu_image.specs.declared.rename.Rename.{Rename}
 use Rattle.lu_image.specs.declared.rename.Table.TheVariants as T
 use Rattle.lu_image.specs.Names.{entry_at, function_names, site_name, site_names}

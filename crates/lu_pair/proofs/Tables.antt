@@ -1,6 +1,6 @@
 -- The first refusal of all tables, from that of one.
 use Rattle.std.proofs.Common.{◌≡◌, subst, List, Option, None}
-use Rattle.src_model.specs.declared.program.Program.{Program}
+use Rattle.src_tree.specs.declared.program.Program.{Program}
 use Rattle.lu_image.specs.declared.rename.Rename.{Rename}
 use Rattle.lu_image.specs.declared.error.PairError.{PairError}
 use Rattle.lu_image.specs.RenameRefusal.{or_else, global_refusal, struct_refusal, field_refusal, union_refusal, member_refusal, function_refusal, site_refusal, refusal_of}

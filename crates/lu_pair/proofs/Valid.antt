@@ -2,9 +2,9 @@
 use Rattle.std.proofs.Common.{◌≡◌, ◌<◌, ◌^◌, true, List, length, arith}
 use Rattle.std.proofs.lemmas.Bool.Decides.{nat_tests}
 use Rattle.c_types.proofs.Lists.{and_left, and_right}
-use Rattle.src_model.specs.declared.program.Program.{Program}
-use Rattle.src_model.specs.Valid.{IsValid, is_few, has_few_entries, has_valid_types, has_valid_globals}
-use Rattle.src_model.specs.ValidNames.{are_names, names_differ}
+use Rattle.src_tree.specs.declared.program.Program.{Program}
+use Rattle.src_meaning.specs.Valid.{IsValid, is_few, has_few_entries, has_valid_types, has_valid_globals}
+use Rattle.src_meaning.specs.ValidNames.{are_names, names_differ}
 use Rattle.lu_pair.specs.Tags.{HasFewEntries}
 
 few : {A : Type 0} (xs : List A) → is_few xs ≡ true → length xs < 2 ^ 32

@@ -6,7 +6,7 @@ use Rattle.c_types.specs.Numbering.{is_countable}
 use Rattle.c_types.specs.Refusal.{IsBuilt}
 use Rattle.c_types.proofs.Lists.{and_left, and_right}
 use Rattle.c_types.proofs.Numbered.{all_countable, fields_few, members_few}
-use Rattle.src_model.specs.declared.program.Program.{Program}
+use Rattle.src_tree.specs.declared.program.Program.{Program}
 use Rattle.lu_image.specs.declared.rename.Rename.{Rename}
 use Rattle.lu_image.specs.Names.{tag_names}
 use Rattle.lu_image.specs.Pairing.{of_table, tag_pair, part_pairs, struct_pair, union_pair, struct_pairs, union_pairs, field_pairs, member_pairs}

@@ -3,7 +3,7 @@ use Rattle.std.specs.Prelude.{◌≡◌, ℕ, ◌+◌, Bool, List, [], ◌∷◌
 use Rattle.std.specs.Option.{option_map_or}
 use Rattle.std.specs.HashMap.{HashMap, get}
 use Rattle.lu_spec.specs.Then.{then_option}
-use Rattle.src_model.specs.declared.program.Site.{Site}
+use Rattle.src_tree.specs.declared.program.Site.{Site}
 use Rattle.lu_image.specs.declared.rename.Rename.{Rename}
 use Rattle.lu_image.specs.Names.{Names, entry_at, site_name}
 use Rattle.lu_image.specs.Correspondence.{corresponds}

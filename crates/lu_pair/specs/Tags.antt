@@ -2,7 +2,7 @@
 use Rattle.std.specs.Prelude.{◌≡◌, ℕ, ◌<◌, ◌^◌, List, [], length, map, Option, slice_get}
 use Rattle.c_types.specs.declared.parts.TagDef.{TagDef}
 use Rattle.c_types.specs.Tables.{fields_in}
-use Rattle.src_model.specs.declared.program.Program.{Program}
+use Rattle.src_tree.specs.declared.program.Program.{Program}
 use Rattle.lu_image.specs.declared.rename.Table.{Table}
 use Rattle.lu_image.specs.declared.rename.Table.TheVariants as T
 use Rattle.lu_image.specs.declared.rename.Rename.{Rename}

@@ -7,7 +7,7 @@ ghost use Rattle.lu_pair.specs.Outlines.{signature_of};
 use c_types::{Sequence, Signature, TyId, TypeTable};
 use lu_base::Memory;
 use lu_image::Outline;
-use src_model::program::{Function, Global as GlobalVariable, Program, Site};
+use src_tree::program::{Function, Global as GlobalVariable, Program, Site};
 use std::alloc::Global;
 
 fn copy_types(alloc: Global, types: &TypeTable) -> Result<TypeTable, Memory>

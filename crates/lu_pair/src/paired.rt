@@ -17,7 +17,7 @@ use crate::texts::{function_names, global_names, site_names};
 use c_types::{Sequence, TagDef};
 use lu_base::{Memory, Name};
 use lu_image::{Dangling, PairError, Pairing, Rename, Renames, Table};
-use src_model::program::Program;
+use src_tree::program::Program;
 use std::alloc::Global;
 
 /// Pairs entries by their names, unless a rename is refused. `old_open` and `new_open` are the names that renames see.

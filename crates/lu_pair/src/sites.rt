@@ -11,7 +11,7 @@ use crate::texts::site_name;
 use c_types::{Parts, TyId};
 use lu_base::Memory;
 use lu_image::corresponds;
-use src_model::program::Site;
+use src_tree::program::Site;
 use std::alloc::Global;
 use std::collections::HashMap;
 

@@ -7,7 +7,7 @@ ghost use Rattle.lu_image.specs.Names.{global_names, function_names, tag_names, 
 use crate::names::NameList;
 use c_types::{FieldDef, TagDef};
 use lu_base::{Memory, Name};
-use src_model::program::{Function, Global as GlobalVariable, Program, Site};
+use src_tree::program::{Function, Global as GlobalVariable, Program, Site};
 use std::alloc::Global;
 
 /// The text of a number, if it names one.

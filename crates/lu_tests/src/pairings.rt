@@ -2,7 +2,7 @@ use crate::programs::program;
 use lu_base::Name;
 use lu_image::{Pairing, Rename, Renames, Table};
 use lu_pair::{has_few_entries, pair};
-use src_model::program::Program;
+use src_tree::program::Program;
 use std::alloc::Global;
 use std::test::Fail;
 

@@ -1,10 +1,10 @@
 use c_types::{IntKind, Parts, Sequence, Ty, TypeTable, well_numbered};
 use lu_base::{Bytes8, Name};
 use sqlite_items::Items;
-use src_model::expr::{ExprKind, TypedExpr};
 use src_model::initial_store;
-use src_model::program::{Function, Global as GlobalVariable, Init, Program, Site};
-use src_model::stmt::{Rhs, TypedStmt};
+use src_tree::expr::{ExprKind, TypedExpr};
+use src_tree::program::{Function, Global as GlobalVariable, Init, Program, Site};
+use src_tree::stmt::{Rhs, TypedStmt};
 use std::alloc::Global;
 use std::test::Fail;
 

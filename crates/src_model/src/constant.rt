@@ -3,35 +3,23 @@
 ghost use Rattle.std.specs.Prelude.{◌≡◌, ℕ, Some, Ok, IsTrue, nat_lt};
 ghost use Rattle.lu_spec.specs.Then.{then_do};
 ghost use Rattle.c_types.specs.declared.parts.Parts.{Parts};
-ghost use Rattle.src_model.specs.declared.value.Store.{Store};
-ghost use Rattle.src_model.specs.declared.value.Value as V;
-ghost use Rattle.src_model.specs.Operators.{is_true, converted, flagged, unary, binary};
-ghost use Rattle.src_model.specs.Expression.{logical, chosen, value_of};
-ghost use Rattle.src_model.specs.Constant.{kind_at, takes_integers, is_integer_constant, is_zero_literal, is_null_constant, constant_value, evaluated, int_value, if_ok};
-ghost use Rattle.src_model.specs.Initial.{global_count, initial_scope, start_of};
+ghost use Rattle.src_tree.specs.declared.value.Store.{Store};
+ghost use Rattle.src_tree.specs.declared.value.Value as V;
+ghost use Rattle.src_meaning.specs.Operators.{is_true, converted, flagged, unary, binary};
+ghost use Rattle.src_meaning.specs.Expression.{logical, chosen, value_of};
+ghost use Rattle.src_meaning.specs.Constant.{kind_at, takes_integers, is_integer_constant, is_zero_literal, is_null_constant, constant_value, evaluated, int_value, if_ok};
+ghost use Rattle.src_meaning.specs.Initial.{global_count, initial_scope, start_of};
 
-use crate::expr::{
-    BinaryOperator, ExprKind, LogicalOperator, PlaceKind, TypedExpr, TypedPlace, UnaryOperator,
-};
 use crate::integers;
-use crate::program::Program;
 use crate::valid_fits::type_of;
 use crate::valid_types::{is_array, is_int, is_integer, is_pointer};
 use c_types::{IntKind, Ty, TyId};
 use lu_base::Trap;
-
-/// The value of such an expression.
-#[derive(Clone, Copy, Debug, PartialEq, Eq)]
-pub enum Constant {
-    /// An integer of any integer type.
-    Int(i128),
-    /// The null pointer, of any object or function pointer type.
-    Null,
-    /// The address of a global, by its number.
-    Start(u32),
-    /// A function, by its number.
-    Function(u32),
-}
+use src_meaning::constant::Constant;
+use src_tree::expr::{
+    BinaryOperator, ExprKind, LogicalOperator, PlaceKind, TypedExpr, TypedPlace, UnaryOperator,
+};
+use src_tree::program::Program;
 
 fn kind_at(p: &Program, number: TyId) -> Option<IntKind>
     ensures { result ≡ kind_at p.now.types number }

@@ -2,19 +2,20 @@
 
 ghost use Rattle.std.specs.Prelude.{◌≡◌, ◌++◌, ◌<◌, map, drop, length, IfOk, IfSome, slice_get};
 ghost use Rattle.c_types.specs.Recursion.{depth};
-ghost use Rattle.src_model.specs.declared.value.Value.{out-Value};
-ghost use Rattle.src_model.specs.declared.value.Value as V;
-ghost use Rattle.src_model.specs.Paths.{zero_of};
-ghost use Rattle.src_model.specs.Constant.{as_value};
-ghost use Rattle.src_model.specs.Initial.{item_types, items_in, byte_in, composed, spread, text_items, initial_scope, initial_value, initial_object, initial_store};
+ghost use Rattle.src_tree.specs.declared.value.Value.{out-Value};
+ghost use Rattle.src_tree.specs.declared.value.Value as V;
+ghost use Rattle.src_meaning.specs.Paths.{zero_of};
+ghost use Rattle.src_meaning.specs.Constant.{as_value};
+ghost use Rattle.src_meaning.specs.Initial.{item_types, items_in, byte_in, composed, spread, text_items, initial_scope, initial_value, initial_object, initial_store};
 
-use crate::constant::{Constant, evaluate};
+use crate::constant::evaluate;
 use crate::integers::wrap;
-use crate::program::{Global as GlobalVariable, Init, Program};
-use crate::value::{Object, ObjectKind, Store, Value};
 use c_types::{Parts, Ty, TyId, TypeTable};
 use lu_base::Memory;
 use sqlite_items::{Boxed, Items};
+use src_meaning::constant::Constant;
+use src_tree::program::{Global as GlobalVariable, Init, Program};
+use src_tree::value::{Object, ObjectKind, Store, Value};
 use std::alloc::Global;
 
 fn item_type_in(parts: &Parts, number: TyId, index: usize) -> Option<TyId>

@@ -1,7 +1,7 @@
 // Arithmetic on integers of a type: two's complement, and results wrap.
 
 ghost use Rattle.std.specs.Prelude.{◌≡◌, ◌<◌, ◌^◌, ◌+ℤ◌, ◌-ℤ◌, ◌*ℤ◌, pos, negsuc, neg_ℤ, bit_and, bit_or, bit_xor};
-ghost use Rattle.src_model.specs.Integers.{bits_of, residue, from_bits, wrapped, flag, quotient, remainder, on_bits, shifted_left, shifted_right};
+ghost use Rattle.src_meaning.specs.Integers.{bits_of, residue, from_bits, wrapped, flag, quotient, remainder, on_bits, shifted_left, shifted_right};
 
 use c_types::IntKind;
 use lu_base::Trap;

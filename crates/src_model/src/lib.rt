@@ -1,20 +1,12 @@
-//! Programs of the C subset with their types, the values and stores that they run on, and what they mean.
-//! The trees stand in `program`, `stmt`, `expr` and `value`. The meaning stands in `specs/`: `Integers`, `Pointers` and
-//! `Operators`, then `Expression` and `Assignment`, then `Call` and `Delivery`; `Objects` has addresses and the heap,
-//! `Store` says which stores are a program's, and `ValueBytes` lays values out as bytes.
+//! Programs of the C subset: whether one is valid, the constants in it and the store that it starts with.
+//! Layer: programs. It takes the trees of `src_tree` and the definitions of `src_meaning`, and gives both rooms' public
+//! types under its own name. Its contract: each answer is the one that the definition gives.
 #![tactic(auto)]
 
 pub mod constant;
-mod copy;
-mod copy_expr;
-mod copy_stmt;
-pub mod expr;
 pub mod first;
 mod initial;
 mod integers;
-pub mod program;
-pub mod signatures;
-pub mod stmt;
 mod valid;
 mod valid_depth;
 mod valid_expr;
@@ -25,7 +17,13 @@ mod valid_numbering;
 mod valid_stmt;
 mod valid_table;
 mod valid_types;
-pub mod value;
 
 pub use initial::initial_store;
+pub use src_tree::expr::{
+    BinaryOperator, ExprKind, LogicalOperator, PlaceKind, TypedExpr, TypedPlace, UnaryOperator,
+};
+pub use src_tree::program::{Function, Global, Init, Program, Site};
+pub use src_tree::stmt::{Call, Callee, Rhs, TypedStmt};
+pub use src_tree::value::{Object, ObjectKind, Store, Value};
+pub use valid::{Validity, valid_where_distinct};
 pub use valid_table::has_types;

@@ -3,13 +3,12 @@
 ghost use Rattle.std.specs.Prelude.{◌≡◌, ◌+◌, ◌≤◌, Some, length, IsTrue};
 ghost use Rattle.std.specs.List.{list_all, list_any};
 ghost use Rattle.c_types.specs.Words.{Tells};
-ghost use Rattle.src_model.specs.ValidTypes.{signature_is_declared, is_declared_scalar};
-ghost use Rattle.src_model.specs.ValidTable.{has_types};
-ghost use Rattle.src_model.specs.ValidNames.{are_distinct};
-ghost use Rattle.src_model.specs.Valid as spec;
+ghost use Rattle.src_meaning.specs.ValidTypes.{signature_is_declared, is_declared_scalar};
+ghost use Rattle.src_meaning.specs.ValidTable.{has_types};
+ghost use Rattle.src_meaning.specs.ValidNames.{are_distinct};
+ghost use Rattle.src_meaning.specs.Valid as spec;
 
-use crate::program::{Function, Global, Init, Program, Site};
-use crate::valid_expr::{Declarations, has_signature};
+use crate::valid_expr::Declarations;
 use crate::valid_fits::type_of;
 use crate::valid_init::is_start;
 use crate::valid_names::{
@@ -23,6 +22,8 @@ use crate::valid_types::{
     is_signature_declared,
 };
 use c_types::{FieldDef, GREATEST, Signature, TagDef, Ty, TyId};
+use src_tree::program::{Function, Global, Init, Program, Site};
+use src_tree::signatures::has_signature;
 
 /// The most structs, unions, fields of one, globals, functions and sites.
 const GREATEST_COUNT: usize = 4096;
@@ -344,25 +345,30 @@ fn keeps_rules(p: &Program) -> bool
     are_distinct(p.names.as_slice()) && keeps_rules_where_distinct(p)
 }
 
-impl Program {
-    /// Whether the program is valid: it has what each program has that the rules of the language accept. It takes no memory.
-    /// Its time rises with the square of the number of names, and may rise steeply with signatures in signatures.
-    pub fn valid(&self) -> bool
+/// Whether a program is valid: it has what each program has that the rules of the language accept.
+pub trait Validity {
+    /// Whether the program is valid. It takes no memory. Its time rises with the square of the number of names, and may rise
+    /// steeply with signatures in signatures.
+    fn valid(&self) -> bool;
+}
+
+impl Validity for Program {
+    fn valid(&self) -> bool
         ensures { Tells result (spec.IsValid self.now) }
     {
         let _parts = self.types.parts();
         keeps_rules(self)
     }
+}
 
-    /// Whether the program is valid, as `valid` says it, where no two of its names are equal: they aren't compared again.
-    /// It takes no memory. Its time is near linear in the program where the table of types stands in its usual order: the
-    /// integer types, `void *`, the structs, the unions and the pointers to functions, each with the pointers over it. But
-    /// the signature of each function is searched for among all signatures, whose number has no bound of its own.
-    pub fn valid_where_distinct(&self) -> bool
-        requires { IsTrue (are_distinct self.now.names) }
-        ensures { Tells result (spec.IsValid self.now) }
-    {
-        let _parts = self.types.parts();
-        keeps_rules_where_distinct(self)
-    }
+/// Whether the program is valid, as `valid` says it, where no two of its names are equal: they aren't compared again.
+/// It takes no memory. Its time is near linear in the program where the table of types stands in its usual order: the
+/// integer types, `void *`, the structs, the unions and the pointers to functions, each with the pointers over it. But
+/// the signature of each function is searched for among all signatures, whose number has no bound of its own.
+pub fn valid_where_distinct(program: &Program) -> bool
+    requires { IsTrue (are_distinct program.now.names) }
+    ensures { Tells result (spec.IsValid program.now) }
+{
+    let _parts = program.types.parts();
+    keeps_rules_where_distinct(program)
 }

@@ -2,16 +2,12 @@
 
 ghost use Rattle.std.specs.Prelude.{◌≡◌, ◌&&◌, false, nat_eq, length, slice_get};
 ghost use Rattle.std.specs.Option.{option_map_or};
-ghost use Rattle.src_model.specs.Store as store;
-ghost use Rattle.src_model.specs.ValidTypes.{ty};
-ghost use Rattle.src_model.specs.Constant.{is_zero_literal};
-ghost use Rattle.src_model.specs.ValidExpression as spec;
+ghost use Rattle.src_meaning.specs.ValidTypes.{ty};
+ghost use Rattle.src_meaning.specs.Constant.{is_zero_literal};
+ghost use Rattle.src_meaning.specs.ValidExpression as spec;
 ghost use Rattle.src_model.specs.ValidSeen.{seen};
 
 use crate::constant::is_zero_literal;
-use crate::expr::{ExprKind, PlaceKind, TypedExpr, TypedPlace};
-use crate::program::{Function, Program};
-use crate::signatures::{same_numbers, same_result};
 use crate::valid_fits::{
     address_fits, binary_fits, cast_fits, conditional_fits, decay_fits, element_fits, is_number,
     item_fits, load_fits, logical_fits, type_of, unary_fits,
@@ -20,7 +16,10 @@ use crate::valid_types::{
     converts, is_array, is_field_of, is_member_of, is_named, is_pointer, is_scalar,
     is_unsigned_int, points_to,
 };
-use c_types::{Signature, Ty, TyId};
+use c_types::{Ty, TyId};
+use src_tree::expr::{ExprKind, PlaceKind, TypedExpr, TypedPlace};
+use src_tree::program::Program;
+use src_tree::signatures::has_signature;
 
 /// What an expression may name: of a function the types of its parameters and of its locals.
 #[derive(Clone, Copy)]
@@ -50,14 +49,6 @@ fn is_local(at: &Declarations, number: u32, ty: TyId) -> bool
         Some(known) => ty == known,
         None => false,
     }
-}
-
-/// Whether the function has exactly that signature.
-pub fn has_signature(function: &Function, signature: &Signature) -> bool
-    ensures { result ≡ store.has_signature function.now signature.now }
-{
-    same_result(function.ret, signature.result)
-        && same_numbers(function.params.as_slice(), signature.params.as_slice())
 }
 
 fn is_function(p: &Program, signature: u32, function: u32) -> bool
@@ -104,7 +95,7 @@ fn converts_to(p: &Program, to: TyId, e: &TypedExpr) -> bool
 }
 
 /// Whether the place isn't inside a union.
-#[tactic(auto, using(crate::proofs::ValidTrees::outside_facts))]
+#[tactic(auto, using(src_meaning::proofs::ValidTrees::outside_facts))]
 pub fn is_outside(place: &TypedPlace) -> bool
     ensures { result ≡ spec.is_outside place.now.kind }
 {
@@ -119,7 +110,7 @@ pub fn is_outside(place: &TypedPlace) -> bool
 
 /// Whether the expression has the type of its node.
 #[cycle(is_expr)]
-#[tactic(auto, using(crate::proofs::ValidTrees::expression_facts))]
+#[tactic(auto, using(src_meaning::proofs::ValidTrees::expression_facts))]
 pub fn is_expr(at: &Declarations, e: &TypedExpr) -> bool
     ensures { result ≡ spec.is_expr (seen at.now) e.now.ty e.now.kind }
 {
@@ -166,7 +157,7 @@ pub fn is_expr(at: &Declarations, e: &TypedExpr) -> bool
 
 /// Whether the place has the type of its node.
 #[cycle(is_expr)]
-#[tactic(auto, using(crate::proofs::ValidTrees::expression_facts))]
+#[tactic(auto, using(src_meaning::proofs::ValidTrees::expression_facts))]
 pub fn is_place(at: &Declarations, place: &TypedPlace) -> bool
     ensures { result ≡ spec.is_place (seen at.now) place.now.ty place.now.kind }
 {

@@ -1,16 +1,16 @@
 // Whether an operator, a conversion or a step fits the types round it.
 
 ghost use Rattle.std.specs.Prelude.{◌≡◌, pos};
-ghost use Rattle.src_model.specs.ValidTypes.{ty};
-ghost use Rattle.src_model.specs.ValidExpression as spec;
+ghost use Rattle.src_meaning.specs.ValidTypes.{ty};
+ghost use Rattle.src_meaning.specs.ValidExpression as spec;
 
-use crate::expr::{BinaryOperator, UnaryOperator};
-use crate::program::Program;
 use crate::valid_types::{
     casts, is_array, is_array_of, is_comparable, is_decayed, is_int, is_long_long, is_named,
     is_object_pointer, is_ordered, is_promoted, is_scalar, points_to,
 };
 use c_types::{IntKind, Ty, TyId};
+use src_tree::expr::{BinaryOperator, UnaryOperator};
+use src_tree::program::Program;
 
 /// The type of a number; none where there is no such type.
 pub fn type_of(p: &Program, number: TyId) -> Option<Ty>

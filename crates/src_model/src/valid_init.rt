@@ -1,16 +1,17 @@
 // Initialisers of globals as the rules ask for them, with their depth.
 
 ghost use Rattle.std.specs.Prelude.{◌≡◌, ◌-◌, ◌&&◌, nat_lt};
-ghost use Rattle.src_model.specs.ValidInitialiser as spec;
+ghost use Rattle.src_meaning.specs.ValidInitialiser as spec;
 
-use crate::constant::{Constant, evaluate};
-use crate::expr::{ExprKind, PlaceKind, TypedExpr, TypedPlace};
-use crate::program::{Init, Program};
+use crate::constant::evaluate;
 use crate::valid_expr::{Declarations, is_expr};
 use crate::valid_fits::type_of;
 use crate::valid_stmt::has_depth;
 use crate::valid_types::is_scalar;
 use c_types::{IntKind, Ty, TyId};
+use src_meaning::constant::Constant;
+use src_tree::expr::{ExprKind, PlaceKind, TypedExpr, TypedPlace};
+use src_tree::program::{Init, Program};
 
 /// The room of a global's initialiser.
 const INITIAL_ROOM: u32 = 64;
@@ -26,7 +27,7 @@ fn place_is_before(global: u32, place: &TypedPlace) -> bool
 }
 
 /// Whether an address is that of a global before this one.
-#[tactic(auto, using(crate::proofs::ValidTrees::before_facts))]
+#[tactic(auto, using(src_meaning::proofs::ValidTrees::before_facts))]
 fn is_before(global: u32, e: &TypedExpr) -> bool
     ensures { result ≡ spec.is_before global e.now.kind }
 {
@@ -144,7 +145,7 @@ fn is_item(p: &Program, global: u32, room: u32, ty: TyId, number: usize, init: &
 
 /// Whether these may be the items of the type between braces.
 #[cycle(is_initialiser)]
-#[tactic(auto, using(crate::proofs::ValidItems::item_facts))]
+#[tactic(auto, using(src_meaning::proofs::ValidItems::item_facts))]
 fn are_items(p: &Program, global: u32, room: u32, ty: TyId, inits: &[Init]) -> bool
     ensures { result ≡ spec.are_listed p.now global room ty 0 inits.now }
 {

@@ -2,19 +2,11 @@
 
 ghost use Rattle.std.specs.Prelude.{◌≡◌, ◌+◌, if◌then◌else◌, [], ◌∷◌, Some, None, count_by, nat_eq, nat_lt, length, ◌≤◌};
 ghost use Rattle.std.specs.List.{list_all};
-ghost use Rattle.src_model.specs.ValidNumbering as spec;
+ghost use Rattle.src_meaning.specs.ValidNumbering as spec;
 
-use crate::program::{Function, Site};
-use crate::stmt::{Callee, Rhs, TypedStmt};
-
-/// What comes next in a function.
-#[derive(Clone, Copy, Debug, PartialEq, Eq)]
-pub struct Next {
-    /// The number of the next local.
-    pub local: u64,
-    /// The number of the next site among those of its function.
-    pub ordinal: u64,
-}
+use src_meaning::validity::Next;
+use src_tree::program::{Function, Site};
+use src_tree::stmt::{Callee, Rhs, TypedStmt};
 
 /// The sites of a program, and the number of the function whose statements are read.
 #[derive(Clone, Copy)]
@@ -117,7 +109,7 @@ fn after_declaration(
 
 /// What comes next after the statement; none where it doesn't have the next numbers.
 #[cycle(after_statement)]
-#[tactic(auto, using(crate::proofs::ValidMarks::mark_facts))]
+#[tactic(auto, using(src_meaning::proofs::ValidMarks::mark_facts))]
 fn after_statement(sites: &Sites, next: Option<Next>, statement: &TypedStmt) -> Option<Next>
     ensures { result ≡ spec.after_marks sites.now.all.now sites.now.function next (spec.marks statement.now) }
 {
@@ -145,7 +137,7 @@ fn after_statement(sites: &Sites, next: Option<Next>, statement: &TypedStmt) -> 
 
 /// What comes next after the statements.
 #[cycle(after_statement)]
-#[tactic(auto, using(crate::proofs::ValidMarks::mark_facts))]
+#[tactic(auto, using(src_meaning::proofs::ValidMarks::mark_facts))]
 fn after_statements(sites: &Sites, next: Option<Next>, statements: &[TypedStmt]) -> Option<Next>
     ensures { result ≡ spec.after_marks sites.now.all.now sites.now.function next (spec.body_marks statements.now) }
 {

@@ -2,16 +2,13 @@
 
 ghost use Rattle.std.specs.Prelude.{◌≡◌, ◌-◌, ◌&&◌, nat_lt, nat_eq, false, slice_get};
 ghost use Rattle.std.specs.Option.{option_map_or};
-ghost use Rattle.src_model.specs.ValidStatement as spec;
-ghost use Rattle.src_model.specs.ValidExpression.{local_type, is_target};
-ghost use Rattle.src_model.specs.ValidDepth.{spot, unary_rank, place_keeps_bounds};
+ghost use Rattle.src_meaning.specs.ValidStatement as spec;
+ghost use Rattle.src_meaning.specs.ValidExpression.{local_type, is_target};
+ghost use Rattle.src_meaning.specs.ValidDepth.{spot, unary_rank, place_keeps_bounds};
 ghost use Rattle.src_model.specs.ValidSeen.{seen};
-ghost use Rattle.src_model.specs.ValidTypes.{is_int, is_long_long, is_void_pointer};
+ghost use Rattle.src_meaning.specs.ValidTypes.{is_int, is_long_long, is_void_pointer};
 
-use crate::expr::{TypedExpr, TypedPlace};
-use crate::program::Program;
-use crate::stmt::{Call, Callee, Rhs, TypedStmt};
-use crate::valid_depth::{POSTFIX, Spot, UNARY, keeps_bounds, place_keeps_bounds};
+use crate::valid_depth::{POSTFIX, UNARY, chain_start, keeps_bounds, place_keeps_bounds, whole};
 use crate::valid_expr::{
     Declarations, is_assignable, is_condition, is_expr, is_target, local_type,
 };
@@ -20,12 +17,15 @@ use crate::valid_types::{
     converts, is_declared_scalar, is_int, is_long_long, is_scalar, is_void_pointer,
 };
 use c_types::{IntKind, Ty, TyId};
+use src_tree::expr::{TypedExpr, TypedPlace};
+use src_tree::program::Program;
+use src_tree::stmt::{Call, Callee, Rhs, TypedStmt};
 
 /// Whether a whole expression keeps the bounds in a construct with this room.
 pub fn has_depth(room: u32, e: &TypedExpr) -> bool
     ensures { result ≡ spec.has_depth room e.now }
 {
-    keeps_bounds(Spot::whole(room), e)
+    keeps_bounds(whole(room), e)
 }
 
 fn is_argument(at: &Declarations, room: u32, ty: TyId, e: &TypedExpr) -> bool
@@ -127,7 +127,7 @@ fn names_site(p: &Program, site: u32) -> bool
 fn is_callee_pointer(at: &Declarations, here: u32, e: &TypedExpr) -> bool
     ensures { result ≡ spec.is_callee (seen at.now) here e.now }
 {
-    is_expr(at, e) && keeps_bounds(Spot::new(POSTFIX, here), e)
+    is_expr(at, e) && keeps_bounds(chain_start(POSTFIX, here), e)
 }
 
 /// Whether the rules allow the call, with its callee where there is room `here` and its arguments where there is `room`.
@@ -286,7 +286,7 @@ fn is_assignment(at: &Declarations, room: u32, to: &TypedPlace, rhs: &Rhs) -> bo
     ensures { result ≡ is_target (seen at.now) to.now && (place_keeps_bounds (spot unary_rank room) to.now.kind && spec.is_right_side (seen at.now) room to.now.ty rhs.now) }
 {
     is_target(at, to)
-        && place_keeps_bounds(Spot::new(UNARY, room), to)
+        && place_keeps_bounds(chain_start(UNARY, room), to)
         && is_right_side(at, room, to.ty, rhs)
 }
 

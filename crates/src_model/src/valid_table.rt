@@ -2,11 +2,12 @@
 
 ghost use Rattle.std.specs.Prelude.{◌≡◌, ◌++◌};
 ghost use Rattle.std.specs.List.{list_all, list_any};
-ghost use Rattle.src_model.specs.ValidTypes.{ty};
-ghost use Rattle.src_model.specs.ValidTable as spec;
+ghost use Rattle.src_meaning.specs.ValidTypes.{ty};
+ghost use Rattle.src_meaning.specs.ValidTable as spec;
 
 use crate::valid_types::{has_stars, is_array};
 use c_types::{IntKind, Parts, Ty};
+use src_meaning::validity::Kind;
 
 /// The most stars over a type whose pointer type the table holds.
 const GREATEST_STARS: u32 = 8;
@@ -15,16 +16,6 @@ const GREATEST_STARS: u32 = 8;
 const BASE_TYPES: usize = 89;
 /// A type and the pointer types of at most nine stars over it.
 const WITH_POINTERS: usize = 10;
-
-/// A kind of types that differ by a number: that of a struct, of a union, of the signature of a function that is pointed
-/// to, or of the type that is pointed to.
-#[derive(Clone, Copy)]
-pub enum Kind {
-    Struct,
-    Union,
-    FunctionPointer,
-    Pointer,
-}
 
 fn same_kind(a: IntKind, b: IntKind) -> bool
     ensures { result ≡ spec.same_kind a b }

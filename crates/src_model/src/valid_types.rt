@@ -3,7 +3,7 @@
 ghost use Rattle.std.specs.Prelude.{◌≡◌, ◌≤◌, Some, length, slice_get};
 ghost use Rattle.std.specs.List.{list_all};
 ghost use Rattle.c_types.specs.Numbering.{is_array};
-ghost use Rattle.src_model.specs.ValidTypes as spec;
+ghost use Rattle.src_meaning.specs.ValidTypes as spec;
 
 use c_types::{FieldDef, IntKind, Parts, Signature, Ty, TyId};
 

@@ -1,5 +1,5 @@
 use Rattle.std.proofs.Common.{◌∙◌, ap}
-use Rattle.src_model.specs.ValidTable.{has_types}
+use Rattle.src_meaning.specs.ValidTable.{has_types}
 use Rattle.c_check.specs.Denotation.{has_common}
 use Rattle.c_check.proofs.check.has_common.Goals as goal
 

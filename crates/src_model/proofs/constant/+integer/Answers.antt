@@ -1,6 +1,6 @@
 use Rattle.std.proofs.Common.{◌∙◌, sym}
-use Rattle.src_model.specs.Initial.{initial_scope}
-use Rattle.src_model.proofs.ConstantLayers.{cast_is, convert_is, unary_is, binary_is, logical_is, conditional_is}
+use Rattle.src_meaning.specs.Initial.{initial_scope}
+use Rattle.src_meaning.proofs.ConstantLayers.{cast_is, convert_is, unary_is, binary_is, logical_is, conditional_is}
 use Rattle.src_model.proofs.constant.+integer.Goals as goal
 
 pub returns-in-Cast : goal.returns-in-Cast

@@ -1,6 +1,6 @@
 use Rattle.std.proofs.Common.{◌∙◌, ap}
-use Rattle.src_model.specs.ValidTypes.{is_integer}
-use Rattle.src_model.proofs.ConstantLayers.{cast_form, convert_form, unary_form, binary_form, logical_form, conditional_form}
+use Rattle.src_meaning.specs.ValidTypes.{is_integer}
+use Rattle.src_meaning.proofs.ConstantLayers.{cast_form, convert_form, unary_form, binary_form, logical_form, conditional_form}
 use Rattle.src_model.proofs.constant.+is_integer_constant.Goals as goal
 
 pub returns-in-Unary : goal.returns-in-Unary

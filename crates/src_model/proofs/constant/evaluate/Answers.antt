@@ -1,6 +1,6 @@
 use Rattle.std.proofs.Common.{◌∙◌, sym}
-use Rattle.src_model.specs.Initial.{initial_scope}
-use Rattle.src_model.proofs.ConstantValues.{evaluate-null, evaluate-address, evaluate-decay}
+use Rattle.src_meaning.specs.Initial.{initial_scope}
+use Rattle.src_meaning.proofs.ConstantValues.{evaluate-null, evaluate-address, evaluate-decay}
 use Rattle.src_model.proofs.constant.evaluate.Goals as goal
 
 pub returns-then-is_null_constant : goal.returns-then-is_null_constant

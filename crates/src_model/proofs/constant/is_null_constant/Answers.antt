@@ -1,6 +1,6 @@
 use Rattle.std.proofs.Common.{◌∙◌, ap}
-use Rattle.src_model.specs.ValidTypes.{is_pointer}
-use Rattle.src_model.proofs.ConstantValues.{null_form}
+use Rattle.src_meaning.specs.ValidTypes.{is_pointer}
+use Rattle.src_meaning.proofs.ConstantValues.{null_form}
 use Rattle.src_model.proofs.constant.is_null_constant.Goals as goal
 
 pub returns-in-Convert : goal.returns-in-Convert

@@ -1,8 +1,8 @@
 use Rattle.std.proofs.Common.{◌∙◌, ◌≡◌, sym, ap, subst, List, [], ◌∷◌, ◌++◌, slice_get}
 use Rattle.std.specs.Prelude.{IfOk}
-use Rattle.src_model.specs.declared.value.Value.{Value}
-use Rattle.src_model.specs.Initial.{item_types, composed, spread, initial_scope, initial_value}
-use Rattle.src_model.proofs.InitialLemmas.{paired_start, paired_next, paired_same, paired_end, found, initial_value-List}
+use Rattle.src_tree.specs.declared.value.Value.{Value}
+use Rattle.src_meaning.specs.Initial.{item_types, composed, spread, initial_scope, initial_value}
+use Rattle.src_meaning.proofs.InitialLemmas.{paired_start, paired_next, paired_same, paired_end, found, initial_value-List}
 use Rattle.src_model.proofs.initial.+initial_value.Goals as goal
 use Rattle.src_model.proofs.initial.+initial_value.Goals.{initial_items-in-Some+in_ok-initial_value+in_ok-push, initial_items-in_default}
 

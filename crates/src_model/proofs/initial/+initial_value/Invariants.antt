@@ -1,6 +1,6 @@
 use Rattle.std.proofs.Common.{◌≡◌, take}
-use Rattle.src_model.specs.Initial.{item_types, initial_scope, initial_value}
-use Rattle.src_model.proofs.InitialLemmas.{paired}
+use Rattle.src_meaning.specs.Initial.{item_types, initial_scope, initial_value}
+use Rattle.src_meaning.proofs.InitialLemmas.{paired}
 use Rattle.src_model.proofs.initial.+initial_value.Given as goal
 
 abbrev pub invariant-initial_items-loop-init : goal.invariant-initial_items-loop-init

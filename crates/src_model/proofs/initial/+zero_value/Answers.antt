@@ -3,9 +3,9 @@ use Rattle.std.proofs.lemmas.Grind.{common_steps}
 use Rattle.c_types.specs.declared.parts.TheConstants.{POINTER_SIZE}
 use Rattle.c_types.specs.Tables.{members_of}
 use Rattle.c_types.specs.Recursion.{depth}
-use Rattle.src_model.specs.Paths.{zero_of}
-use Rattle.src_model.specs.Initial.{item_types}
-use Rattle.src_model.proofs.InitialLemmas.{zero_struct, zero_array, zero_union, member-falls, filled_more, filled_full}
+use Rattle.src_meaning.specs.Paths.{zero_of}
+use Rattle.src_meaning.specs.Initial.{item_types}
+use Rattle.src_meaning.proofs.InitialLemmas.{zero_struct, zero_array, zero_union, member-falls, filled_more, filled_full}
 use Rattle.src_model.proofs.initial.+zero_value.Goals as goal
 
 pub with_zeros-loop-ty-preserved : goal.with_zeros-loop-ty-preserved

@@ -1,8 +1,8 @@
 use Rattle.std.proofs.Common.{◌+◌, ◌-◌, ◌*◌, length}
 use Rattle.c_types.specs.Recursion.{depth}
-use Rattle.src_model.specs.Paths.{zero_of}
-use Rattle.src_model.specs.Initial.{item_types}
-use Rattle.src_model.proofs.InitialLemmas.{IsFilled}
+use Rattle.src_meaning.specs.Paths.{zero_of}
+use Rattle.src_meaning.specs.Initial.{item_types}
+use Rattle.src_meaning.proofs.InitialLemmas.{IsFilled}
 use Rattle.src_model.proofs.initial.+zero_value.Given as goal
 
 abbrev pub decreases-zero_value : goal.decreases-zero_value

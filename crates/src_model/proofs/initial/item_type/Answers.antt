@@ -1,7 +1,7 @@
 use Rattle.std.proofs.Common.{◌∙◌, ap, slice_get}
 use Rattle.c_types.specs.declared.parts.TheConstants.{POINTER_SIZE}
-use Rattle.src_model.specs.Initial.{item_types}
-use Rattle.src_model.proofs.InitialLemmas.{item_type-falls}
+use Rattle.src_meaning.specs.Initial.{item_types}
+use Rattle.src_meaning.proofs.InitialLemmas.{item_type-falls}
 use Rattle.src_model.proofs.initial.item_type.Goals as goal
 
 pub returns-clause-falls : goal.returns-clause-falls

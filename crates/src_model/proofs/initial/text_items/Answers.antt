@@ -1,8 +1,8 @@
 use Rattle.std.proofs.Common.{◌∙◌, ◌≡◌, ℕ, refl, sym, ap, subst, List, [], ◌∷◌, ◌++◌, get_or, slice_get}
 use Rattle.std.specs.Prelude.{IfOk}
-use Rattle.src_model.specs.declared.value.Value.{Value, Int}
-use Rattle.src_model.specs.Initial.{byte_in, item_types}
-use Rattle.src_model.proofs.InitialLemmas.{paired_start, paired_next, paired_same, paired_end, found}
+use Rattle.src_tree.specs.declared.value.Value.{Value, Int}
+use Rattle.src_meaning.specs.Initial.{byte_in, item_types}
+use Rattle.src_meaning.proofs.InitialLemmas.{paired_start, paired_next, paired_same, paired_end, found}
 use Rattle.src_model.proofs.initial.text_items.Goals as goal
 use Rattle.src_model.proofs.initial.text_items.Goals.{in-Some+in_ok-push, in_default}
 

@@ -1,8 +1,8 @@
 use Rattle.std.proofs.Common.{rules, ◌∙◌, ap, FitsSigned}
 use Rattle.std.specs.Int.{w128}
 use Rattle.std.proofs.lemmas.Int.{to_z-of_z, wrapping_mul_is}
-use Rattle.src_model.specs.Integers.{wrapped}
-use Rattle.src_model.proofs.Wrapping.{wrapped-int_wrap}
+use Rattle.src_meaning.specs.Integers.{wrapped}
+use Rattle.src_meaning.proofs.Wrapping.{wrapped-int_wrap}
 use Rattle.src_model.proofs.integers.multiply.Goals as goal
 
 pub returns : goal.returns

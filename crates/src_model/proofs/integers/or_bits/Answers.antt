@@ -1,5 +1,5 @@
 use Rattle.std.proofs.lemmas.Nat.{or_lt}
-use Rattle.src_model.specs.Integers.{bits_of}
+use Rattle.src_meaning.specs.Integers.{bits_of}
 use Rattle.src_model.proofs.integers.or_bits.Goals as goal
 
 pub from_bits-requires : goal.from_bits-requires

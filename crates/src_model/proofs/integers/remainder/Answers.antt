@@ -1,6 +1,6 @@
 use Rattle.std.proofs.Common.{rules, FitsSigned}
 use Rattle.std.specs.Int.{w128}
-use Rattle.src_model.proofs.Wrapping.{remainder_is}
+use Rattle.src_meaning.proofs.Wrapping.{remainder_is}
 use Rattle.src_model.proofs.integers.remainder.Goals as goal
 
 pub returns : goal.returns

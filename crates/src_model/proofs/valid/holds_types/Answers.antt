@@ -1,5 +1,5 @@
 use Rattle.std.proofs.Common.{◌≡◌, ◌∙◌, ap}
-use Rattle.src_model.specs.ValidTable.{has_types}
+use Rattle.src_meaning.specs.ValidTable.{has_types}
 use Rattle.src_model.proofs.valid.holds_types.Goals as goal
 
 pub returns : goal.returns

@@ -1,6 +1,6 @@
 use Rattle.std.proofs.Common.{rules, ◌≡◌, ◌∙◌, sym, ap}
-use Rattle.src_model.specs.ValidDepth as spec
-use Rattle.src_model.proofs.ValidBounds.{bounds-Unary, bounds-Binary, bounds-Logical, bounds-Conditional, bounds-Item, bounds-Element, bounds-Field, bounds-Member}
+use Rattle.src_meaning.specs.ValidDepth as spec
+use Rattle.src_meaning.proofs.ValidBounds.{bounds-Unary, bounds-Binary, bounds-Logical, bounds-Conditional, bounds-Item, bounds-Element, bounds-Field, bounds-Member}
 use Rattle.src_model.proofs.valid_depth.+keeps_bounds.Goals as goal
 
 pub keeps_bounds-returns-in-Unary : goal.keeps_bounds-returns-in-Unary

@@ -1,7 +1,7 @@
 use Rattle.std.proofs.Common.{rules, ◌≡◌, ◌∙◌, sym, ap}
 use Rattle.src_model.specs.ValidSeen.{seen}
-use Rattle.src_model.specs.ValidExpression as spec
-use Rattle.src_model.proofs.ValidTrees.{expr-Load, expr-AddressOf, expr-Decay, expr-Cast, expr-Convert, expr-Unary, expr-Binary, expr-Logical, expr-Conditional, place-Deref, place-Arrow, place-Item, place-Element, place-Field, place-Member}
+use Rattle.src_meaning.specs.ValidExpression as spec
+use Rattle.src_meaning.proofs.ValidTrees.{expr-Load, expr-AddressOf, expr-Decay, expr-Cast, expr-Convert, expr-Unary, expr-Binary, expr-Logical, expr-Conditional, place-Deref, place-Arrow, place-Item, place-Element, place-Field, place-Member}
 use Rattle.src_model.proofs.valid_expr.+is_expr.Goals as goal
 
 pub is_expr-returns-then-is_place : goal.is_expr-returns-then-is_place

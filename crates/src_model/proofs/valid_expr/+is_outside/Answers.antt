@@ -1,6 +1,6 @@
 use Rattle.std.proofs.Common.{rules, ◌≡◌, ◌∙◌, sym, ap}
-use Rattle.src_model.specs.ValidExpression as spec
-use Rattle.src_model.proofs.ValidTrees.{outside-Element, outside-Field}
+use Rattle.src_meaning.specs.ValidExpression as spec
+use Rattle.src_meaning.proofs.ValidTrees.{outside-Element, outside-Field}
 use Rattle.src_model.proofs.valid_expr.+is_outside.Goals as goal
 
 pub returns-in-Element : goal.returns-in-Element

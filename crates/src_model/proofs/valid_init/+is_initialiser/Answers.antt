@@ -1,6 +1,6 @@
 use Rattle.std.proofs.Common.{rules, ◌≡◌, ◌∙◌, ap}
-use Rattle.src_model.specs.ValidInitialiser as spec
-use Rattle.src_model.proofs.ValidItems.{initialiser-List}
+use Rattle.src_meaning.specs.ValidInitialiser as spec
+use Rattle.src_meaning.proofs.ValidItems.{initialiser-List}
 use Rattle.src_model.proofs.valid_init.+is_initialiser.Goals as goal
 
 pub is_initialiser-returns-then-is_filled : goal.is_initialiser-returns-then-is_filled

@@ -1,5 +1,5 @@
 use Rattle.std.proofs.Common.{◌≡◌, take}
-use Rattle.src_model.specs.ValidInitialiser as spec
+use Rattle.src_meaning.specs.ValidInitialiser as spec
 use Rattle.src_model.proofs.valid_init.+is_initialiser.Given as goal
 
 abbrev pub invariant-are_items-loop-init : goal.invariant-are_items-loop-init

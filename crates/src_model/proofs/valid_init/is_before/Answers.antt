@@ -1,6 +1,6 @@
 use Rattle.std.proofs.Common.{rules, ◌≡◌, ◌∙◌, ap}
-use Rattle.src_model.specs.ValidInitialiser as spec
-use Rattle.src_model.proofs.ValidTrees.{before-AddressOf, before-Decay}
+use Rattle.src_meaning.specs.ValidInitialiser as spec
+use Rattle.src_meaning.proofs.ValidTrees.{before-AddressOf, before-Decay}
 use Rattle.src_model.proofs.valid_init.is_before.Goals as goal
 
 pub returns-in-AddressOf : goal.returns-in-AddressOf

@@ -1,5 +1,5 @@
 use Rattle.std.proofs.Common.{◌≡◌, length}
-use Rattle.src_model.specs.ValidNames as spec
+use Rattle.src_meaning.specs.ValidNames as spec
 use Rattle.src_model.proofs.valid_names.are_distinct.Given as goal
 
 abbrev pub invariant-loop-rest : goal.invariant-loop-rest

@@ -1,7 +1,7 @@
 use Rattle.std.proofs.Common.{rules, ◌≡◌, ◌∙◌, ◌++◌, ap}
-use Rattle.src_model.specs.ValidNumbering as spec
-use Rattle.src_model.proofs.ValidRows.{marks-Block, marks-If, marks-While, marks-For}
-use Rattle.src_model.proofs.ValidMarks.{after-append}
+use Rattle.src_meaning.specs.ValidNumbering as spec
+use Rattle.src_meaning.proofs.ValidRows.{marks-Block, marks-If, marks-While, marks-For}
+use Rattle.src_meaning.proofs.ValidMarks.{after-append}
 use Rattle.src_model.proofs.valid_numbering.+after_statement.Goals as goal
 
 pub after_statement-returns-in-Block : goal.after_statement-returns-in-Block

@@ -1,5 +1,5 @@
 use Rattle.std.proofs.Common.{◌≡◌, take}
-use Rattle.src_model.specs.ValidNumbering as spec
+use Rattle.src_meaning.specs.ValidNumbering as spec
 use Rattle.src_model.proofs.valid_numbering.+after_statement.Given as goal
 
 abbrev pub invariant-after_statements-loop-statement : goal.invariant-after_statements-loop-statement

@@ -1,7 +1,7 @@
 use Rattle.std.proofs.Common.{rules, ◌≡◌, ◌∙◌, ap}
-use Rattle.src_model.specs.ValidStatement as spec
+use Rattle.src_meaning.specs.ValidStatement as spec
 use Rattle.src_model.specs.ValidSeen.{seen}
-use Rattle.src_model.proofs.ValidRows.{statement-Block, statement-If, statement-While, statement-For}
+use Rattle.src_meaning.proofs.ValidRows.{statement-Block, statement-If, statement-While, statement-For}
 use Rattle.src_model.proofs.valid_stmt.+is_statement.Goals as goal
 
 pub is_statement-returns-then-room-gt1 : goal.is_statement-returns-then-room-gt1

@@ -1,5 +1,5 @@
 use Rattle.std.proofs.Common.{◌≡◌, true, take}
-use Rattle.src_model.specs.ValidStatement as spec
+use Rattle.src_meaning.specs.ValidStatement as spec
 use Rattle.src_model.specs.ValidSeen.{seen}
 use Rattle.src_model.proofs.valid_stmt.+is_statement.Given as goal
 

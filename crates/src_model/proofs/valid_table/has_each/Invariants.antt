@@ -1,5 +1,5 @@
 use Rattle.std.proofs.Common.{◌≡◌, ◌+◌, length}
-use Rattle.src_model.specs.ValidTable as spec
+use Rattle.src_meaning.specs.ValidTable as spec
 use Rattle.src_model.proofs.valid_table.has_each.Given as goal
 
 abbrev pub invariant-loop-rest : goal.invariant-loop-rest

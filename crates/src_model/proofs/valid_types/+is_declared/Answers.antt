@@ -1,7 +1,7 @@
 use Rattle.std.proofs.Common.{rules, ◌≡◌, ◌∙◌, ◌-◌, sym, ap, Some}
 use Rattle.c_types.specs.declared.parts.Ty.TheVariants as T
-use Rattle.src_model.specs.ValidTypes as spec
-use Rattle.src_model.proofs.ValidTypeFacts.{room-suc, declared-Function}
+use Rattle.src_meaning.specs.ValidTypes as spec
+use Rattle.src_meaning.proofs.ValidTypeFacts.{room-suc, declared-Function}
 use Rattle.src_model.proofs.valid_types.+is_declared.Goals as goal
 
 pub is_declared-returns-in-Some-Function : goal.is_declared-returns-in-Some-Function

@@ -1,5 +1,0 @@
-use Rattle.std.proofs.Common.{◌≡◌, take}
-use Rattle.src_model.proofs.copy.+copy_init.Given as goal
-
-abbrev pub invariant-copy_inits-loop-init : goal.invariant-copy_inits-loop-init
-invariant-copy_inits-loop-init l = l.copies ≡ take l.init-index l.inits
