@@ -78,24 +78,24 @@ module _ (known : Shapes) where
 same_shape : (a b n m : ℕ) → Alike a b → n ≡ m → capped (shape a n) ≡ capped (shape b m)
 same_shape a b n m h e = ap (λ s. shape s n) (alike-min a b h) ∙ ap (shape (min b (greatest + 1))) e
 
-pub capped-step : (w : ℕ) (p : Parts) (known : Shapes) → ((t : ℕ) → 1 ≤ (known t).align) → (ty : Ty) → capped (shape_step w p (cut known) ty) ≡ capped (shape_step w p known ty)
-capped-step w p known low (Int k) = refl
-capped-step w p known low (Pointer t) = refl
-capped-step w p known low VoidPointer = refl
-capped-step w p known low (Function g) = refl
-capped-step w p known low (Struct s) =
+pub capped-step : (p : Parts) (known : Shapes) → ((t : ℕ) → 1 ≤ (known t).align) → (ty : Ty) → capped (shape_step p (cut known) ty) ≡ capped (shape_step p known ty)
+capped-step p known low (Int k) = refl
+capped-step p known low (Pointer t) = refl
+capped-step p known low VoidPointer = refl
+capped-step p known low (Function g) = refl
+capped-step p known low (Struct s) =
     let fs = fields_of p s in
     let align = cut-align known fs in
     let end = cut-end known low fs 0 0 (inl refl) in
     let rounded = alike-multiple _ (fields_end known 0 fs) (greatest_align known fs) (greatest_align-low known fs) end in
     ap (λ a. capped (shape (next_multiple (fields_end (cut known) 0 fs) a) a)) align ∙ same_shape _ (next_multiple (fields_end known 0 fs) (greatest_align known fs)) _ (greatest_align known fs) rounded refl
-capped-step w p known low (Union u) =
+capped-step p known low (Union u) =
     let fs = members_of p u in
     let align = cut-align known fs in
     let ends = alike-add (members_start known fs) (members_start known fs) _ (greatest_size known fs) (inl refl) (cut-size known fs) in
     let rounded = alike-multiple _ (members_start known fs + greatest_size known fs) (union_align known fs) (omega arith) ends in
     ap (λ a. capped (shape (next_multiple (next_multiple 4 a + greatest_size (cut known) fs) (max 4 a)) (max 4 a))) align ∙ same_shape _ (next_multiple (members_start known fs + greatest_size known fs) (union_align known fs)) _ (union_align known fs) rounded refl
-capped-step w p known low (Array t n) =
+capped-step p known low (Array t n) =
     same_shape _ ((known t).size * n) _ (known t).align (alike-times _ (known t).size n (min-alike (known t).size)) refl
 
 int_size-low : (k : IntKind) → 1 ≤ int_size k
@@ -108,8 +108,8 @@ int_size-low UInt = omega arith
 int_size-low LongLong = omega arith
 int_size-low ULongLong = omega arith
 
-module _ (w : ℕ) (pointer : 1 ≤ w) (p : Parts) where
-  step-low : (known : Shapes) → ((t : ℕ) → 1 ≤ (known t).align) → (ty : Ty) → 1 ≤ (shape_step w p known ty).align
+module _ (p : Parts) (pointer : 1 ≤ p.pointer) where
+  step-low : (known : Shapes) → ((t : ℕ) → 1 ≤ (known t).align) → (ty : Ty) → 1 ≤ (shape_step p known ty).align
   step-low known low (Int k) = int_size-low k
   step-low known low (Pointer t) = pointer
   step-low known low VoidPointer = pointer
@@ -118,13 +118,13 @@ module _ (w : ℕ) (pointer : 1 ≤ w) (p : Parts) where
   step-low known low (Union u) = omega arith
   step-low known low (Array t n) = low t
 
-  pub fuel-low : (k t : ℕ) → 1 ≤ (by_fuel p (shape_step w p) (shape 0 1) k t).align
+  pub fuel-low : (k t : ℕ) → 1 ≤ (by_fuel p (shape_step p) (shape 0 1) k t).align
   fuel-low zero t = omega arith
   fuel-low (suc k) t = by_entry (slice_get p.types t) (fuel-low k)
     where
-      by_entry : (o : Option Ty) → ((u : ℕ) → 1 ≤ (by_fuel p (shape_step w p) (shape 0 1) k u).align) → 1 ≤ (at_type (shape_step w p (by_fuel p (shape_step w p) (shape 0 1) k)) (shape 0 1) o).align
+      by_entry : (o : Option Ty) → ((u : ℕ) → 1 ≤ (by_fuel p (shape_step p) (shape 0 1) k u).align) → 1 ≤ (at_type (shape_step p (by_fuel p (shape_step p) (shape 0 1) k)) (shape 0 1) o).align
       by_entry None low = omega arith
-      by_entry (Some ty) low = step-low (by_fuel p (shape_step w p) (shape 0 1) k) low ty
+      by_entry (Some ty) low = step-low (by_fuel p (shape_step p) (shape 0 1) k) low ty
 
   shape_at-replicate : (n t : ℕ) → shape_at (replicate n (shape 0 1)) t ≡ shape 0 1
   shape_at-replicate zero t = refl
@@ -137,12 +137,12 @@ module _ (w : ℕ) (pointer : 1 ≤ w) (p : Parts) where
   shape_at-map f (ty ∷ types) (suc t) = shape_at-map f types t
 
   -- equal shapes of types by number give equal shapes
-  pub rounds-capped : (k t : ℕ) → shape_at (shape_rounds w p k) t ≡ capped (by_fuel p (shape_step w p) (shape 0 1) k t)
+  pub rounds-capped : (k t : ℕ) → shape_at (shape_rounds p k) t ≡ capped (by_fuel p (shape_step p) (shape 0 1) k t)
   rounds-capped zero t = shape_at-replicate (length p.types) t
-  rounds-capped (suc k) t = shape_at-map (round_shape w p (shape_rounds w p k)) p.types t ∙ by_entry (slice_get p.types t) (rounds-capped k)
+  rounds-capped (suc k) t = shape_at-map (round_shape p (shape_rounds p k)) p.types t ∙ by_entry (slice_get p.types t) (rounds-capped k)
     where
-      by_entry : (o : Option Ty) → ((u : ℕ) → shape_at (shape_rounds w p k) u ≡ capped (by_fuel p (shape_step w p) (shape 0 1) k u)) → option_map_or (round_shape w p (shape_rounds w p k)) o (shape 0 1) ≡ capped (at_type (shape_step w p (by_fuel p (shape_step w p) (shape 0 1) k)) (shape 0 1) o)
+      by_entry : (o : Option Ty) → ((u : ℕ) → shape_at (shape_rounds p k) u ≡ capped (by_fuel p (shape_step p) (shape 0 1) k u)) → option_map_or (round_shape p (shape_rounds p k)) o (shape 0 1) ≡ capped (at_type (shape_step p (by_fuel p (shape_step p) (shape 0 1) k)) (shape 0 1) o)
       by_entry None same = refl
       by_entry (Some ty) same =
-          let known = by_fuel p (shape_step w p) (shape 0 1) k in
-          ap (λ (f : Shapes). capped (shape_step w p f ty)) (fun_ext same) ∙ capped-step w p known (fuel-low k) ty
+          let known = by_fuel p (shape_step p) (shape 0 1) k in
+          ap (λ (f : Shapes). capped (shape_step p f ty)) (fun_ext same) ∙ capped-step p known (fuel-low k) ty

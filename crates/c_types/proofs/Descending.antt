@@ -9,18 +9,18 @@ use Rattle.c_types.specs.declared.path.Step.{Step}
 use Rattle.c_types.specs.declared.descent.Part.{Part}
 use Rattle.c_types.specs.Descent.{part_at, is_here, descend}
 
-module _ (w : ℕ) (p : Parts) (n k t offset want : ℕ) (lt : k < n) where
+module _ (p : Parts) (n k t offset want : ℕ) (lt : k < n) where
   fuel : n - k ≡ suc (n - (k + 1))
   fuel = omega arith
 
-  pub descend-here : is_here t offset want ≡ true → descend w p (n - k) t offset want ≡ Some []
-  descend-here e = ap (λ m. descend w p m t offset want) fuel ∙ ap (λ b. if b then Some [] else then_option (part_at w p offset (slice_get p.types t)) (λ q. option_map (λ path. q.step ∷ path) (descend w p (n - (k + 1)) q.ty q.rest want))) e
+  pub descend-here : is_here t offset want ≡ true → descend p (n - k) t offset want ≡ Some []
+  descend-here e = ap (λ m. descend p m t offset want) fuel ∙ ap (λ b. if b then Some [] else then_option (part_at p offset (slice_get p.types t)) (λ q. option_map (λ path. q.step ∷ path) (descend p (n - (k + 1)) q.ty q.rest want))) e
 
-  pub descend-on : (o : Option Part) → is_here t offset want ≡ false → o ≡ part_at w p offset (slice_get p.types t) → descend w p (n - k) t offset want ≡ then_option o (λ q. option_map (λ path. q.step ∷ path) (descend w p (n - (k + 1)) q.ty q.rest want))
+  pub descend-on : (o : Option Part) → is_here t offset want ≡ false → o ≡ part_at p offset (slice_get p.types t) → descend p (n - k) t offset want ≡ then_option o (λ q. option_map (λ path. q.step ∷ path) (descend p (n - (k + 1)) q.ty q.rest want))
   descend-on o e f =
-      ap (λ m. descend w p m t offset want) fuel
-      ∙ (ap (λ b. if b then Some [] else then_option (part_at w p offset (slice_get p.types t)) (λ q. option_map (λ path. q.step ∷ path) (descend w p (n - (k + 1)) q.ty q.rest want))) e
-      ∙ ap (λ o. then_option o (λ q. option_map (λ path. q.step ∷ path) (descend w p (n - (k + 1)) q.ty q.rest want))) (sym f))
+      ap (λ m. descend p m t offset want) fuel
+      ∙ (ap (λ b. if b then Some [] else then_option (part_at p offset (slice_get p.types t)) (λ q. option_map (λ path. q.step ∷ path) (descend p (n - (k + 1)) q.ty q.rest want))) e
+      ∙ ap (λ o. then_option o (λ q. option_map (λ path. q.step ∷ path) (descend p (n - (k + 1)) q.ty q.rest want))) (sym f))
 
 pub map-append : (steps : List Step) (s : Step) (o : Option (List Step)) → option_map (λ rest. (steps ++ s ∷ []) ++ rest) o ≡ option_map (λ rest. steps ++ rest) (option_map (λ rest. s ∷ rest) o)
 map-append steps s None = refl

@@ -24,7 +24,6 @@ use Rattle.c_types.specs.Place.{place, shifted, step_place, path_place, is_membe
 use Rattle.c_types.specs.Descent.{part, part_in_fields, part_in_array, part_at, is_here, descend}
 use Rattle.c_types.specs.Refusal.{IsBuilt}
 use Rattle.c_types.proofs.Lists.{and_left, and_right}
-use Rattle.c_types.proofs.Alignment.{IsAlignment}
 use Rattle.c_types.proofs.FieldLaws.{nth-above}
 use Rattle.c_types.proofs.MarkLemmas.{held_known}
 use Rattle.c_types.proofs.PlaceLaws.{same-place, index-step, field-step, after, step-held, first-of, low, size-low}
@@ -110,9 +109,9 @@ array-sound t size n offset q some e = by_test (nat_lt (offset / size) n) refl e
           rest = omega (arith, ap (λ q. q.rest) is);
         }
 
-module _ (w : ℕ) (p : Parts) (pointer : IsAlignment w) (built : IsBuilt w p) where
+module _ (p : Parts) (built : IsBuilt p) where
   -- the part to which a step leads is found by each of its bytes
-  part-find : (t : ℕ) (o : Option Ty) (s : Step) (to : Place) (offset : ℕ) → slice_get p.types t ≡ o → is_member s ≡ false → step_place w p o s ≡ Some to → to.offset ≤ offset → offset < to.offset + size_of w p to.ty → part_at w p offset o ≡ Some (part s to.ty (offset - to.offset))
+  part-find : (t : ℕ) (o : Option Ty) (s : Step) (to : Place) (offset : ℕ) → slice_get p.types t ≡ o → is_member s ≡ false → step_place p o s ≡ Some to → to.offset ≤ offset → offset < to.offset + size_of p to.ty → part_at p offset o ≡ Some (part s to.ty (offset - to.offset))
   part-find t None s to offset k m e a b = cc
   part-find t (Some (Int i)) s to offset k m e a b = cc
   part-find t (Some (Pointer u)) s to offset k m e a b = cc
@@ -124,29 +123,29 @@ module _ (w : ℕ) (p : Parts) (pointer : IsAlignment w) (built : IsBuilt w p) w
   part-find t (Some (Struct r)) (Index i) to offset k m e a b = cc
   part-find t (Some (Struct r)) (Member i) to offset k m e a b = cc
   part-find t (Some (Struct r)) (Field i) to offset k m e a b =
-      let f = field-step (slice_get (fields_of p r) i) (field_offset w p r i) to e in
+      let f = field-step (slice_get (fields_of p r) i) (field_offset p r i) to e in
       let at = ap (λ q. q.offset) f.2 in
-      let end = ap (λ q. q.offset + size_of w p q.ty) f.2 in
-      let found = fields-find (shape_of w p) (low w p pointer built) (fields_of p r) 0 0 i offset f.0 f.1 (omega (arith, at)) (omega (arith, end)) in
+      let end = ap (λ q. q.offset + size_of p q.ty) f.2 in
+      let found = fields-find (shape_of p) (low p built) (fields_of p r) 0 0 i offset f.0 f.1 (omega (arith, at)) (omega (arith, end)) in
       let z : 0 + i ≡ i = omega arith in
-      found ∙ (ap (λ j. Some (part (Field j) f.0.ty (offset - field_offset w p r i))) z ∙ ap (λ (q : Place). Some (part (Field i) q.ty (offset - q.offset))) f.2)
+      found ∙ (ap (λ j. Some (part (Field j) f.0.ty (offset - field_offset p r i))) z ∙ ap (λ (q : Place). Some (part (Field i) q.ty (offset - q.offset))) f.2)
   part-find t (Some (Array u n)) (Field i) to offset k m e a b = cc
   part-find t (Some (Array u n)) (Member i) to offset k m e a b = cc
   part-find t (Some (Array u n)) (Index i) to offset k m e a b =
-      let q = index-step (nat_lt i n) (place u (i * size_of w p u)) to e in
+      let q = index-step (nat_lt i n) (place u (i * size_of p u)) to e in
       let at = ap (λ q. q.offset) q.1 in
-      let end = ap (λ q. q.offset + size_of w p q.ty) q.1 in
-      let some : 0 < size_of w p u = omega (arith, at, end) in
-      array-find u (size_of w p u) n i offset q.0 some (omega (arith, at)) (omega (arith, end)) ∙ ap (λ (q : Place). Some (part (Index i) q.ty (offset - q.offset))) q.1
+      let end = ap (λ q. q.offset + size_of p q.ty) q.1 in
+      let some : 0 < size_of p u = omega (arith, at, end) in
+      array-find u (size_of p u) n i offset q.0 some (omega (arith, at)) (omega (arith, end)) ∙ ap (λ (q : Place). Some (part (Index i) q.ty (offset - q.offset))) q.1
 
   record FoundPart (o : Option Ty) (offset : ℕ) (q : Part) : Type 0 where
     pub to : Place
-    pub step : step_place w p o q.step ≡ Some to
+    pub step : step_place p o q.step ≡ Some to
     pub ty : q.ty ≡ to.ty
     pub sum : to.offset + q.rest ≡ offset
     pub outside : is_member q.step ≡ false
 
-  part-sound : (t : ℕ) (o : Option Ty) (offset : ℕ) (q : Part) → slice_get p.types t ≡ o → part_at w p offset o ≡ Some q → FoundPart o offset q
+  part-sound : (t : ℕ) (o : Option Ty) (offset : ℕ) (q : Part) → slice_get p.types t ≡ o → part_at p offset o ≡ Some q → FoundPart o offset q
   part-sound t None offset q k e = cc
   part-sound t (Some (Int i)) offset q k e = cc
   part-sound t (Some (Pointer u)) offset q k e = cc
@@ -154,22 +153,22 @@ module _ (w : ℕ) (p : Parts) (pointer : IsAlignment w) (built : IsBuilt w p) w
   part-sound t (Some (Function g)) offset q k e = cc
   part-sound t (Some (Union r)) offset q k e = cc
   part-sound t (Some (Struct r)) offset q k e =
-      let f = fields-sound (shape_of w p) (low w p pointer built) (fields_of p r) 0 0 offset q e in
+      let f = fields-sound (shape_of p) (low p built) (fields_of p r) 0 0 offset q e in
       let z : 0 + f.number ≡ f.number = omega arith in
       let step : q.step ≡ Field f.number = ap (λ q. q.step) (sym f.is) ∙ ap Field z in
       record {
-        to = place f.field.ty (field_offset w p r f.number);
-        step = ap (step_place w p (Some (Struct r))) step ∙ ap (option_map (λ f'. place f'.ty (field_offset w p r f.number))) f.entry;
+        to = place f.field.ty (field_offset p r f.number);
+        step = ap (step_place p (Some (Struct r))) step ∙ ap (option_map (λ f'. place f'.ty (field_offset p r f.number))) f.entry;
         ty = ap (λ q. q.ty) (sym f.is);
         sum = omega (arith, f.started, ap (λ q. q.rest) f.is);
         outside = ap is_member step;
       }
   part-sound t (Some (Array u n)) offset q k e =
       let known = held_known p built.numbered t u (ap_contains k) in
-      let f = array-sound u (size_of w p u) n offset q (size-low w p pointer built u known) e in
+      let f = array-sound u (size_of p u) n offset q (size-low p built u known) e in
       record {
-        to = place u (f.number * size_of w p u);
-        step = ap (step_place w p (Some (Array u n))) f.step ∙ ap (λ b. if b then Some (place u (f.number * size_of w p u)) else None) f.within;
+        to = place u (f.number * size_of p u);
+        step = ap (step_place p (Some (Array u n))) f.step ∙ ap (λ b. if b then Some (place u (f.number * size_of p u)) else None) f.within;
         ty = f.ty;
         sum = f.rest;
         outside = ap is_member f.step;
@@ -179,7 +178,7 @@ module _ (w : ℕ) (p : Parts) (pointer : IsAlignment w) (built : IsBuilt w p) w
       ap_contains k = let P : Option Ty → Type 0 = λ o. Contains (held_in p o) u in subst P (sym k) (0, omega arith, refl)
 
   -- the byte at an offset in a place is in the part to which its path's first step leads
-  pub descend-find : (n t offset want : ℕ) (path : List Step) → t < length p.types → IsOutsideUnions path → path_place w p t path ≡ Some (place want offset) → length path < n → descend w p n t offset want ≡ Some path
+  pub descend-find : (n t offset want : ℕ) (path : List Step) → t < length p.types → IsOutsideUnions path → path_place p t path ≡ Some (place want offset) → length path < n → descend p n t offset want ≡ Some path
   descend-find zero t offset want path k m e lt = absurd (omega arith)
   descend-find (suc n) t offset want [] k m e lt =
       let q = same-place t 0 want offset e in
@@ -187,18 +186,18 @@ module _ (w : ℕ) (p : Parts) (pointer : IsAlignment w) (built : IsBuilt w p) w
       let zeroed : nat_eq offset 0 ≡ true = (let h : 0 ≡ offset = q.1 in grind (arith, nat_tests)) in
       rw (same, zeroed) refl
   descend-find (suc n) t offset want (s ∷ path) k m e lt =
-      let f = first-of w p t s path (place want offset) e in
+      let f = first-of p t s path (place want offset) e in
       let steps = or_false (is_member s) _ m in
-      let held = step-held w p (slice_get p.types t) s f.part f.step in
+      let held = step-held p (slice_get p.types t) s f.part f.step in
       let known = held_known p built.numbered t f.part.ty held in
-      let within = path-within w p pointer built f.part.ty path f.last f.rest in
-      let last_known = path-known w p pointer built f.part.ty path f.last known f.rest in
-      let some = size-low w p pointer built f.last.ty last_known in
+      let within = path-within p built f.part.ty path f.last f.rest in
+      let last_known = path-known p built f.part.ty path f.last known f.rest in
+      let some = size-low p built f.last.ty last_known in
       let found = part-find t (slice_get p.types t) s f.part offset refl steps.0 f.step (omega (arith, f.sum)) (omega (arith, f.sum, within, some)) in
-      let falls = path-depth w p pointer built t (s ∷ path) (place want offset) k e in
+      let falls = path-depth p built t (s ∷ path) (place want offset) k e in
       let other : nat_eq t want ≡ false = not_same t want (λ h. omega (arith, falls, ap (depth p) h)) in
       let last : offset - f.part.offset ≡ f.last.offset = omega (arith, f.sum) in
-      let rest : path_place w p f.part.ty path ≡ Some (place want (offset - f.part.offset)) = f.rest ∙ (ap (λ t. Some (place t f.last.offset)) f.ty ∙ ap (λ x. Some (place want x)) (sym last)) in
+      let rest : path_place p f.part.ty path ≡ Some (place want (offset - f.part.offset)) = f.rest ∙ (ap (λ t. Some (place t f.last.offset)) f.ty ∙ ap (λ x. Some (place want x)) (sym last)) in
       let below = descend-find n f.part.ty (offset - f.part.offset) want path known steps.1 rest (omega arith) in
       rw (other, found, below) refl
     where
@@ -210,35 +209,35 @@ module _ (w : ℕ) (p : Parts) (pointer : IsAlignment w) (built : IsBuilt w p) w
           by_test false e = e
 
   -- and what it finds is such a place
-  pub descend-sound : (n t offset want : ℕ) (path : List Step) → descend w p n t offset want ≡ Some path → (path_place w p t path ≡ Some (place want offset)) × IsOutsideUnions path
+  pub descend-sound : (n t offset want : ℕ) (path : List Step) → descend p n t offset want ≡ Some path → (path_place p t path ≡ Some (place want offset)) × IsOutsideUnions path
   descend-sound zero t offset want path e = cc
   descend-sound (suc n) t offset want path e = by_here (is_here t offset want) refl e (descend-sound n)
     where
-      here : is_here t offset want ≡ true → [] ≡ path → (path_place w p t path ≡ Some (place want offset)) × IsOutsideUnions path
+      here : is_here t offset want ≡ true → [] ≡ path → (path_place p t path ≡ Some (place want offset)) × IsOutsideUnions path
       here h same =
           let a = and_left (nat_eq t want) (nat_eq offset 0) h in
           let b = and_right (nat_eq t want) (nat_eq offset 0) h in
           let q : t ≡ want = grind (arith, nat_tests) in
           let z : 0 ≡ offset = grind (arith, nat_tests) in
-          let P : List Step → Type 0 = λ path. (path_place w p t path ≡ Some (place want offset)) × IsOutsideUnions path in
+          let P : List Step → Type 0 = λ path. (path_place p t path ≡ Some (place want offset)) × IsOutsideUnions path in
           subst P same (ap (λ t. Some (place t 0)) q ∙ ap (λ x. Some (place want x)) z, refl)
 
-      by_rest : (q : Part) → part_at w p offset (slice_get p.types t) ≡ Some q → (o : Option (List Step)) → descend w p n q.ty q.rest want ≡ o → option_map (λ path. q.step ∷ path) o ≡ Some path → ((t offset want : ℕ) (path : List Step) → descend w p n t offset want ≡ Some path → (path_place w p t path ≡ Some (place want offset)) × IsOutsideUnions path) → (path_place w p t path ≡ Some (place want offset)) × IsOutsideUnions path
+      by_rest : (q : Part) → part_at p offset (slice_get p.types t) ≡ Some q → (o : Option (List Step)) → descend p n q.ty q.rest want ≡ o → option_map (λ path. q.step ∷ path) o ≡ Some path → ((t offset want : ℕ) (path : List Step) → descend p n t offset want ≡ Some path → (path_place p t path ≡ Some (place want offset)) × IsOutsideUnions path) → (path_place p t path ≡ Some (place want offset)) × IsOutsideUnions path
       by_rest q found None d e below = cc
       by_rest q found (Some rest) d e below =
           let part = part-sound t (slice_get p.types t) offset q refl found in
           let inner = below q.ty q.rest want rest d in
           let same : q.step ∷ rest ≡ path = cc in
-          let P : List Step → Type 0 = λ path. (path_place w p t path ≡ Some (place want offset)) × IsOutsideUnions path in
+          let P : List Step → Type 0 = λ path. (path_place p t path ≡ Some (place want offset)) × IsOutsideUnions path in
           subst P same (
-            ap (λ o. then_option o (λ to. then_option (path_place w p to.ty rest) (shifted to.offset))) part.step
-                ∙ (ap (λ o. then_option o (shifted part.to.offset)) (ap (λ u. path_place w p u rest) (sym part.ty) ∙ inner.0)
+            ap (λ o. then_option o (λ to. then_option (path_place p to.ty rest) (shifted to.offset))) part.step
+                ∙ (ap (λ o. then_option o (shifted part.to.offset)) (ap (λ u. path_place p u rest) (sym part.ty) ∙ inner.0)
                 ∙ ap (λ x. Some (place want x)) part.sum),
             ap (λ b. b || list_any is_member rest) part.outside ∙ inner.1,
           )
 
-      by_here : (b : Bool) → is_here t offset want ≡ b → (if b then Some [] else then_option (part_at w p offset (slice_get p.types t)) (λ q. option_map (λ path. q.step ∷ path) (descend w p n q.ty q.rest want))) ≡ Some path → ((t offset want : ℕ) (path : List Step) → descend w p n t offset want ≡ Some path → (path_place w p t path ≡ Some (place want offset)) × IsOutsideUnions path) → (path_place w p t path ≡ Some (place want offset)) × IsOutsideUnions path
+      by_here : (b : Bool) → is_here t offset want ≡ b → (if b then Some [] else then_option (part_at p offset (slice_get p.types t)) (λ q. option_map (λ path. q.step ∷ path) (descend p n q.ty q.rest want))) ≡ Some path → ((t offset want : ℕ) (path : List Step) → descend p n t offset want ≡ Some path → (path_place p t path ≡ Some (place want offset)) × IsOutsideUnions path) → (path_place p t path ≡ Some (place want offset)) × IsOutsideUnions path
       by_here true h e below = here h (cc)
       by_here false h e below =
-          let found = then_some (part_at w p offset (slice_get p.types t)) (λ q. option_map (λ path. q.step ∷ path) (descend w p n q.ty q.rest want)) path e in
-          by_rest found.0 found.1 (descend w p n found.0.ty found.0.rest want) refl found.2 below
+          let found = then_some (part_at p offset (slice_get p.types t)) (λ q. option_map (λ path. q.step ∷ path) (descend p n q.ty q.rest want)) path e in
+          by_rest found.0 found.1 (descend p n found.0.ty found.0.rest want) refl found.2 below

@@ -9,15 +9,15 @@ use Rattle.c_types.specs.Refusal.{has_bad_length, IsTooBig}
 use Rattle.c_types.specs.Words.{NoneIs}
 use Rattle.c_types.specs.Kept.{AreCapped}
 
-pub size-small : (w : ℕ) (p : Parts) → NoneIs (IsTooBig w p) → (t : ℕ) → size_of w p t ≤ greatest
-size-small w p small t = by_test (nat_lt greatest (size_of w p t)) refl (small t)
+pub size-small : (p : Parts) → NoneIs (IsTooBig p) → (t : ℕ) → size_of p t ≤ greatest
+size-small p small t = by_test (nat_lt greatest (size_of p t)) refl (small t)
   where
-    by_test : (b : Bool) → nat_lt greatest (size_of w p t) ≡ b → (b || has_bad_length (slice_get p.types t) ≡ true → ⊥) → size_of w p t ≤ greatest
+    by_test : (b : Bool) → nat_lt greatest (size_of p t) ≡ b → (b || has_bad_length (slice_get p.types t) ≡ true → ⊥) → size_of p t ≤ greatest
     by_test true e h = absurd (h refl)
     by_test false e h = grind (arith, nat_tests)
 
-pub shapes-exact : (w : ℕ) (p : Parts) (shapes : List Shape) → NoneIs (IsTooBig w p) → AreCapped w p shapes → (t : ℕ) → shape_at shapes t ≡ shape_of w p t
-shapes-exact w p shapes small each t =
-    let le = size-small w p small t in
-    let same : min (size_of w p t) (greatest + 1) ≡ size_of w p t = omega arith in
-    each t ∙ ap (λ s. shape s (align_of w p t)) same
+pub shapes-exact : (p : Parts) (shapes : List Shape) → NoneIs (IsTooBig p) → AreCapped p shapes → (t : ℕ) → shape_at shapes t ≡ shape_of p t
+shapes-exact p shapes small each t =
+    let le = size-small p small t in
+    let same : min (size_of p t) (greatest + 1) ≡ size_of p t = omega arith in
+    each t ∙ ap (λ s. shape s (align_of p t)) same

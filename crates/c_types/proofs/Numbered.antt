@@ -1,5 +1,5 @@
 -- What a well-numbered table has.
-use Rattle.std.proofs.Common.{◌≡◌, ◌∙◌, sym, ap, ℕ, zero, suc, ◌<◌, ◌^◌, ◌-◌, Bool, true, false, ◌&&◌, List, [], ◌∷◌, length, Option, Some, None, slice_get, arith, refl}
+use Rattle.std.proofs.Common.{◌≡◌, ◌∙◌, sym, ap, ℕ, zero, suc, ◌<◌, ◌^◌, ◌-◌, Bool, true, false, ◌&&◌, ◌||◌, nat_eq, inl, inr, List, [], ◌∷◌, length, Option, Some, None, slice_get, arith, refl}
 use Rattle.std.proofs.lemmas.Bool.Decides.{nat_tests}
 use Rattle.std.specs.List.{list_all}
 use Rattle.c_types.proofs.Lists.{and_left, and_right}
@@ -9,7 +9,9 @@ use Rattle.c_types.specs.declared.parts.TagDef.{TagDef}
 use Rattle.c_types.specs.declared.parts.FieldDef.{FieldDef}
 use Rattle.c_types.specs.declared.parts.Parts.{Parts}
 use Rattle.c_types.specs.Tables.{fields_in, fields_of, members_of}
-use Rattle.c_types.specs.Numbering.{is_countable, names_entry, type_is_numbered, tag_is_numbered, signature_is_numbered, are_countable, is_well_numbered}
+use Rattle.c_types.specs.Layout.{IsPointerSize}
+use Rattle.c_types.proofs.Alignment.{IsAlignment, IsAlignment-pointer}
+use Rattle.c_types.specs.Numbering.{is_pointer_size, is_countable, names_entry, type_is_numbered, tag_is_numbered, signature_is_numbered, are_countable, is_well_numbered}
 
 pub and_both : (a b : Bool) → a ≡ true → b ≡ true → a && b ≡ true
 and_both true b p q = q
@@ -20,17 +22,28 @@ list_all-at f [] k x h e = cc
 list_all-at f (y ∷ ys) zero x h e = let q : y ≡ x = cc in ap f (sym q) ∙ and_left (f y) (list_all f ys) h
 list_all-at f (y ∷ ys) (suc k) x h e = list_all-at f ys k x (and_right (f y) (list_all f ys) h) e
 
+pointer-size : (w : ℕ) → is_pointer_size w ≡ true → IsPointerSize w
+pointer-size w h = by_four (nat_eq w 4) refl
+  where
+    by_eight : (b : Bool) → nat_eq w 8 ≡ b → nat_eq w 4 ≡ false → IsPointerSize w
+    by_eight true e f = inr (grind (arith, nat_tests))
+    by_eight false e f = absurd (cc)
+
+    by_four : (b : Bool) → nat_eq w 4 ≡ b → IsPointerSize w
+    by_four true e = inl (grind (arith, nat_tests))
+    by_four false e = by_eight (nat_eq w 8) refl e
+
 module _ (p : Parts) (numbered : is_well_numbered p ≡ true) where
   pub all_countable : are_countable p ≡ true
   all_countable = and_left (are_countable p) _ numbered
 
-  rest : list_all (type_is_numbered p) p.types && (list_all (tag_is_numbered p) p.structs && (list_all (tag_is_numbered p) p.unions && list_all (signature_is_numbered p) p.signatures)) ≡ true
+  rest : list_all (type_is_numbered p) p.types && (list_all (tag_is_numbered p) p.structs && (list_all (tag_is_numbered p) p.unions && (list_all (signature_is_numbered p) p.signatures && is_pointer_size p.pointer))) ≡ true
   rest = and_right (are_countable p) _ numbered
 
   pub types_numbered : list_all (type_is_numbered p) p.types ≡ true
   types_numbered = and_left (list_all (type_is_numbered p) p.types) _ rest
 
-  tags : list_all (tag_is_numbered p) p.structs && (list_all (tag_is_numbered p) p.unions && list_all (signature_is_numbered p) p.signatures) ≡ true
+  tags : list_all (tag_is_numbered p) p.structs && (list_all (tag_is_numbered p) p.unions && (list_all (signature_is_numbered p) p.signatures && is_pointer_size p.pointer)) ≡ true
   tags = and_right (list_all (type_is_numbered p) p.types) _ rest
 
   structs_numbered : list_all (tag_is_numbered p) p.structs ≡ true
@@ -38,6 +51,15 @@ module _ (p : Parts) (numbered : is_well_numbered p ≡ true) where
 
   unions_numbered : list_all (tag_is_numbered p) p.unions ≡ true
   unions_numbered = and_left (list_all (tag_is_numbered p) p.unions) _ (and_right (list_all (tag_is_numbered p) p.structs) _ tags)
+
+  -- a pointer takes 4 or 8 bytes
+  pub pointer_sized : IsPointerSize p.pointer
+  pointer_sized =
+      let last = and_right (list_all (tag_is_numbered p) p.unions) _ (and_right (list_all (tag_is_numbered p) p.structs) _ tags) in
+      pointer-size p.pointer (and_right (list_all (signature_is_numbered p) p.signatures) _ last)
+
+  pub pointer_aligned : IsAlignment p.pointer
+  pointer_aligned = IsAlignment-pointer p.pointer pointer_sized
 
   pub types_few : length p.types < 2 ^ 32 - 1
   types_few = let h : is_countable p.types ≡ true = and_left (is_countable p.types) _ all_countable in grind (arith, nat_tests)

@@ -22,6 +22,7 @@ use Rattle.c_types.specs.Layout.{shape, int_size, next_multiple, IsMultiple, Sha
 use Rattle.c_types.specs.declared.path.Place.{Place}
 use Rattle.c_types.specs.Place.{place, shifted, step_place, path_place}
 use Rattle.c_types.specs.Refusal.{IsBuilt}
+use Rattle.c_types.proofs.Numbered.{pointer_aligned}
 use Rattle.c_types.proofs.Alignment.{IsAlignment, IsAlignment-low, IsMultiple-greater, IsMultiple-times, IsMultiple-trans, IsMultiple-next}
 use Rattle.c_types.proofs.Capped.{next_multiple-above, fuel-low}
 use Rattle.c_types.proofs.Shapes.{greatest_align-low}
@@ -55,42 +56,42 @@ pub after : (i j z : ℕ) → i < j → i * z + z ≤ j * z
 after i j z h = let m = mul-le-mul_left {m = suc i} {n = j} z (omega arith) in omega (arith, m)
 
 -- a step leads to a type that is held
-pub step-held : (w : ℕ) (p : Parts) (o : Option Ty) (s : Step) (to : Place) → step_place w p o s ≡ Some to → Contains (held_in p o) to.ty
-step-held w p None s to e = cc
-step-held w p (Some (Int k)) s to e = cc
-step-held w p (Some (Pointer t)) s to e = cc
-step-held w p (Some VoidPointer) s to e = cc
-step-held w p (Some (Function g)) s to e = cc
-step-held w p (Some (Struct r)) (Index k) to e = cc
-step-held w p (Some (Struct r)) (Member k) to e = cc
-step-held w p (Some (Struct r)) (Field k) to e =
-    let f = field-step (slice_get (fields_of p r) k) (field_offset w p r k) to e in
+pub step-held : (p : Parts) (o : Option Ty) (s : Step) (to : Place) → step_place p o s ≡ Some to → Contains (held_in p o) to.ty
+step-held p None s to e = cc
+step-held p (Some (Int k)) s to e = cc
+step-held p (Some (Pointer t)) s to e = cc
+step-held p (Some VoidPointer) s to e = cc
+step-held p (Some (Function g)) s to e = cc
+step-held p (Some (Struct r)) (Index k) to e = cc
+step-held p (Some (Struct r)) (Member k) to e = cc
+step-held p (Some (Struct r)) (Field k) to e =
+    let f = field-step (slice_get (fields_of p r) k) (field_offset p r k) to e in
     let P : Place → Type 0 = λ q. Contains (field_types (fields_of p r)) q.ty in
     subst P f.2 (contains-field (fields_of p r) k f.0 f.1)
-step-held w p (Some (Union r)) (Index k) to e = cc
-step-held w p (Some (Union r)) (Field k) to e = cc
-step-held w p (Some (Union r)) (Member k) to e =
-    let f = field-step (slice_get (members_of p r) k) (member_offset w p r) to e in
+step-held p (Some (Union r)) (Index k) to e = cc
+step-held p (Some (Union r)) (Field k) to e = cc
+step-held p (Some (Union r)) (Member k) to e =
+    let f = field-step (slice_get (members_of p r) k) (member_offset p r) to e in
     let P : Place → Type 0 = λ q. Contains (field_types (members_of p r)) q.ty in
     subst P f.2 (contains-field (members_of p r) k f.0 f.1)
-step-held w p (Some (Array t n)) (Field k) to e = cc
-step-held w p (Some (Array t n)) (Member k) to e = cc
-step-held w p (Some (Array t n)) (Index i) to e =
-    let q = index-step (nat_lt i n) (place t (i * size_of w p t)) to e in (0, omega arith, ap (λ q. q.ty) q.1)
+step-held p (Some (Array t n)) (Field k) to e = cc
+step-held p (Some (Array t n)) (Member k) to e = cc
+step-held p (Some (Array t n)) (Index i) to e =
+    let q = index-step (nat_lt i n) (place t (i * size_of p t)) to e in (0, omega arith, ap (λ q. q.ty) q.1)
 
 -- what a path that begins with a step says
-pub record First (w : ℕ) (p : Parts) (t : ℕ) (s : Step) (path : List Step) (to : Place) : Type 0 where
+pub record First (p : Parts) (t : ℕ) (s : Step) (path : List Step) (to : Place) : Type 0 where
   pub part : Place
   pub last : Place
-  pub step : step_place w p (slice_get p.types t) s ≡ Some part
-  pub rest : path_place w p part.ty path ≡ Some last
+  pub step : step_place p (slice_get p.types t) s ≡ Some part
+  pub rest : path_place p part.ty path ≡ Some last
   pub ty : last.ty ≡ to.ty
   pub sum : part.offset + last.offset ≡ to.offset
 
-pub first-of : (w : ℕ) (p : Parts) (t : ℕ) (s : Step) (path : List Step) (to : Place) → path_place w p t (s ∷ path) ≡ Some to → First w p t s path to
-first-of w p t s path to e =
-    let a = then_some (step_place w p (slice_get p.types t) s) (λ part. then_option (path_place w p part.ty path) (shifted part.offset)) to e in
-    let b = then_some (path_place w p a.0.ty path) (shifted a.0.offset) to a.2 in
+pub first-of : (p : Parts) (t : ℕ) (s : Step) (path : List Step) (to : Place) → path_place p t (s ∷ path) ≡ Some to → First p t s path to
+first-of p t s path to e =
+    let a = then_some (step_place p (slice_get p.types t) s) (λ part. then_option (path_place p part.ty path) (shifted part.offset)) to e in
+    let b = then_some (path_place p a.0.ty path) (shifted a.0.offset) to a.2 in
     record {
       part = a.0;
       last = b.0;
@@ -100,12 +101,12 @@ first-of w p t s path to e =
       sum = ap (λ o. (or_place o).offset) b.2;
     }
 
-module _ (w : ℕ) (p : Parts) (pointer : IsAlignment w) (built : IsBuilt w p) where
-  pub low : (t : ℕ) → 1 ≤ align_of w p t
-  low t = IsAlignment-low (shape-sound w p pointer t).aligned
+module _ (p : Parts) (built : IsBuilt p) where
+  pub low : (t : ℕ) → 1 ≤ align_of p t
+  low t = IsAlignment-low (shape-sound p (pointer_aligned p built.numbered) t).aligned
 
   -- no size is zero
-  step-some : (known : Shapes) → ((t : ℕ) → 1 ≤ (known t).align) → (t : ℕ) (ty : Ty) → slice_get p.types t ≡ Some ty → ((u : ℕ) → Contains (held_in p (Some ty)) u → 0 < (known u).size) → 0 < (shape_step w p known ty).size
+  step-some : (known : Shapes) → ((t : ℕ) → 1 ≤ (known t).align) → (t : ℕ) (ty : Ty) → slice_get p.types t ≡ Some ty → ((u : ℕ) → Contains (held_in p (Some ty)) u → 0 < (known u).size) → 0 < (shape_step p known ty).size
   step-some known low t (Int k) e some = by_kind k
     where
       by_kind : (k : IntKind) → 0 < int_size k
@@ -117,13 +118,13 @@ module _ (w : ℕ) (p : Parts) (pointer : IsAlignment w) (built : IsBuilt w p) w
       by_kind UInt = omega arith
       by_kind LongLong = omega arith
       by_kind ULongLong = omega arith
-  step-some known low t (Pointer u) e some = IsAlignment-low pointer
-  step-some known low t VoidPointer e some = IsAlignment-low pointer
-  step-some known low t (Function g) e some = IsAlignment-low pointer
+  step-some known low t (Pointer u) e some = IsAlignment-low (pointer_aligned p built.numbered)
+  step-some known low t VoidPointer e some = IsAlignment-low (pointer_aligned p built.numbered)
+  step-some known low t (Function g) e some = IsAlignment-low (pointer_aligned p built.numbered)
   step-some known low t (Struct s) e some = by_fields (fields_of p s) refl some
     where
       by_fields : (fields : List FieldDef) → fields_of p s ≡ fields → ((u : ℕ) → Contains (field_types fields) u → 0 < (known u).size) → 0 < next_multiple (fields_end known 0 fields) (greatest_align known fields)
-      by_fields [] none some = absurd (struct-some w p built t s e none)
+      by_fields [] none some = absurd (struct-some p built t s e none)
       by_fields (d ∷ fs) same some =
           let here = some d.ty (0, omega arith, refl) in
           let a = end-above known low 0 d in
@@ -137,10 +138,10 @@ module _ (w : ℕ) (p : Parts) (pointer : IsAlignment w) (built : IsBuilt w p) w
       omega (arith, a, b)
   step-some known low t (Array u n) e some =
       let here = some u (0, omega arith, refl) in
-      let one = length-low w p built t u n e in
+      let one = length-low p built t u n e in
       let m = mul-le-mul_left {m = 1} {n = n} (known u).size one in omega (arith, here, m)
 
-  fuel-some : (k t : ℕ) → is_settled (held_by p) k t ≡ true → t < length p.types → 0 < (by_fuel p (shape_step w p) (shape 0 1) k t).size
+  fuel-some : (k t : ℕ) → is_settled (held_by p) k t ≡ true → t < length p.types → 0 < (by_fuel p (shape_step p) (shape 0 1) k t).size
   fuel-some zero t h lt = cc
   fuel-some (suc k) t h lt = by_entry (slice_get p.types t) refl (λ u c. fuel-some k u (settled-edge (held_by p) k t u h c) (held_known p built.numbered t u c))
     where
@@ -149,15 +150,15 @@ module _ (w : ℕ) (p : Parts) (pointer : IsAlignment w) (built : IsBuilt w p) w
       none_within (x ∷ xs) zero e h = cc
       none_within (x ∷ xs) (suc n) e h = none_within xs n e (omega arith)
 
-      by_entry : (o : Option Ty) → slice_get p.types t ≡ o → ((u : ℕ) → Contains (held_in p o) u → 0 < (by_fuel p (shape_step w p) (shape 0 1) k u).size) → 0 < (at_type (shape_step w p (by_fuel p (shape_step w p) (shape 0 1) k)) (shape 0 1) o).size
+      by_entry : (o : Option Ty) → slice_get p.types t ≡ o → ((u : ℕ) → Contains (held_in p o) u → 0 < (by_fuel p (shape_step p) (shape 0 1) k u).size) → 0 < (at_type (shape_step p (by_fuel p (shape_step p) (shape 0 1) k)) (shape 0 1) o).size
       by_entry None e some = absurd (none_within p.types t e lt)
-      by_entry (Some ty) e some = step-some (by_fuel p (shape_step w p) (shape 0 1) k) (fuel-low w (IsAlignment-low pointer) p k) t ty e some
+      by_entry (Some ty) e some = step-some (by_fuel p (shape_step p) (shape 0 1) k) (fuel-low p (IsAlignment-low (pointer_aligned p built.numbered)) k) t ty e some
 
-  pub size-low : (t : ℕ) → t < length p.types → 0 < size_of w p t
-  size-low t lt = fuel-some (length p.types) t (settled w p built t lt) lt
+  pub size-low : (t : ℕ) → t < length p.types → 0 < size_of p t
+  size-low t lt = fuel-some (length p.types) t (settled p built t lt) lt
 
   -- a part lies inside
-  pub step-within : (t : ℕ) (o : Option Ty) (s : Step) (to : Place) → slice_get p.types t ≡ o → step_place w p o s ≡ Some to → to.offset + size_of w p to.ty ≤ size_of w p t
+  pub step-within : (t : ℕ) (o : Option Ty) (s : Step) (to : Place) → slice_get p.types t ≡ o → step_place p o s ≡ Some to → to.offset + size_of p to.ty ≤ size_of p t
   step-within t None s to k e = cc
   step-within t (Some (Int i)) s to k e = cc
   step-within t (Some (Pointer u)) s to k e = cc
@@ -166,38 +167,38 @@ module _ (w : ℕ) (p : Parts) (pointer : IsAlignment w) (built : IsBuilt w p) w
   step-within t (Some (Struct r)) (Index i) to k e = cc
   step-within t (Some (Struct r)) (Member i) to k e = cc
   step-within t (Some (Struct r)) (Field i) to k e =
-      let known = shape_of w p in
+      let known = shape_of p in
       let fields = fields_of p r in
-      let f = field-step (slice_get fields i) (field_offset w p r i) to e in
+      let f = field-step (slice_get fields i) (field_offset p r i) to e in
       let a = nth-within known low fields 0 i f.0 f.1 in
       let b = next_multiple-above (fields_end known 0 fields) (greatest_align known fields) (greatest_align-low known fields) in
-      let size = ap (λ s. s.size) (shape_of-is w p built t (Struct r) k) in
-      omega (arith, a, b, size, ap (λ q. q.offset + size_of w p q.ty) f.2)
+      let size = ap (λ s. s.size) (shape_of-is p built t (Struct r) k) in
+      omega (arith, a, b, size, ap (λ q. q.offset + size_of p q.ty) f.2)
   step-within t (Some (Union r)) (Index i) to k e = cc
   step-within t (Some (Union r)) (Field i) to k e = cc
   step-within t (Some (Union r)) (Member i) to k e =
-      let known = shape_of w p in
+      let known = shape_of p in
       let members = members_of p r in
-      let f = field-step (slice_get members i) (member_offset w p r) to e in
+      let f = field-step (slice_get members i) (member_offset p r) to e in
       let a = size-greatest known members i f.0 f.1 in
       let b = next_multiple-above (members_start known members + greatest_size known members) (union_align known members) (omega arith) in
-      let size = ap (λ s. s.size) (shape_of-is w p built t (Union r) k) in
-      omega (arith, a, b, size, ap (λ q. q.offset + size_of w p q.ty) f.2)
+      let size = ap (λ s. s.size) (shape_of-is p built t (Union r) k) in
+      omega (arith, a, b, size, ap (λ q. q.offset + size_of p q.ty) f.2)
   step-within t (Some (Array u n)) (Field i) to k e = cc
   step-within t (Some (Array u n)) (Member i) to k e = cc
   step-within t (Some (Array u n)) (Index i) to k e =
-      let q = index-step (nat_lt i n) (place u (i * size_of w p u)) to e in
+      let q = index-step (nat_lt i n) (place u (i * size_of p u)) to e in
       let lt : i < n = grind (arith, nat_tests, q.0) in
-      let m = after i n (size_of w p u) lt in
-      let size = ap (λ s. s.size) (shape_of-is w p built t (Array u n) k) in
-      omega (arith, m, size, ap (λ q. q.offset + size_of w p q.ty) q.1)
+      let m = after i n (size_of p u) lt in
+      let size = ap (λ s. s.size) (shape_of-is p built t (Array u n) k) in
+      omega (arith, m, size, ap (λ q. q.offset + size_of p q.ty) q.1)
 
   -- a part is aligned, and its alignment is no greater
   pub record IsAlignedPart (t : ℕ) (to : Place) : Type 0 where
-    pub offset : IsMultiple to.offset (align_of w p to.ty)
-    pub lower : align_of w p to.ty ≤ align_of w p t
+    pub offset : IsMultiple to.offset (align_of p to.ty)
+    pub lower : align_of p to.ty ≤ align_of p t
 
-  pub step-aligned : (t : ℕ) (o : Option Ty) (s : Step) (to : Place) → slice_get p.types t ≡ o → step_place w p o s ≡ Some to → IsAlignedPart t to
+  pub step-aligned : (t : ℕ) (o : Option Ty) (s : Step) (to : Place) → slice_get p.types t ≡ o → step_place p o s ≡ Some to → IsAlignedPart t to
   step-aligned t None s to k e = cc
   step-aligned t (Some (Int i)) s to k e = cc
   step-aligned t (Some (Pointer u)) s to k e = cc
@@ -206,31 +207,31 @@ module _ (w : ℕ) (p : Parts) (pointer : IsAlignment w) (built : IsBuilt w p) w
   step-aligned t (Some (Struct r)) (Index i) to k e = cc
   step-aligned t (Some (Struct r)) (Member i) to k e = cc
   step-aligned t (Some (Struct r)) (Field i) to k e =
-      let known = shape_of w p in
+      let known = shape_of p in
       let fields = fields_of p r in
-      let f = field-step (slice_get fields i) (field_offset w p r i) to e in
-      let align = ap (λ s. s.align) (shape_of-is w p built t (Struct r) k) in
+      let f = field-step (slice_get fields i) (field_offset p r i) to e in
+      let align = ap (λ s. s.align) (shape_of-is p built t (Struct r) k) in
       let le = align-greatest known fields i f.0 f.1 in
       subst (IsAlignedPart t) f.2 (record { offset = nth-aligned known fields 0 i f.0 f.1; lower = omega (arith, align, le) })
   step-aligned t (Some (Union r)) (Index i) to k e = cc
   step-aligned t (Some (Union r)) (Field i) to k e = cc
   step-aligned t (Some (Union r)) (Member i) to k e =
-      let known = shape_of w p in
+      let known = shape_of p in
       let members = members_of p r in
-      let f = field-step (slice_get members i) (member_offset w p r) to e in
-      let align = ap (λ s. s.align) (shape_of-is w p built t (Union r) k) in
+      let f = field-step (slice_get members i) (member_offset p r) to e in
+      let align = ap (λ s. s.align) (shape_of-is p built t (Union r) k) in
       let le = align-greatest known members i f.0 f.1 in
-      let divides = IsMultiple-greater (shape-sound w p pointer f.0.ty).aligned (IsAlignment-greatest known (shape-sound w p pointer) members) le in
+      let divides = IsMultiple-greater (shape-sound p (pointer_aligned p built.numbered) f.0.ty).aligned (IsAlignment-greatest known (shape-sound p (pointer_aligned p built.numbered)) members) le in
       subst (IsAlignedPart t) f.2 (record {
-        offset = IsMultiple-trans (members_start known members) (greatest_align known members) (align_of w p f.0.ty) (IsMultiple-next 4 (greatest_align known members)) divides;
+        offset = IsMultiple-trans (members_start known members) (greatest_align known members) (align_of p f.0.ty) (IsMultiple-next 4 (greatest_align known members)) divides;
         lower = omega (arith, align, le);
       })
   step-aligned t (Some (Array u n)) (Field i) to k e = cc
   step-aligned t (Some (Array u n)) (Member i) to k e = cc
   step-aligned t (Some (Array u n)) (Index i) to k e =
-      let q = index-step (nat_lt i n) (place u (i * size_of w p u)) to e in
-      let align = ap (λ s. s.align) (shape_of-is w p built t (Array u n) k) in
-      let whole = IsMultiple-times (size_of w p u) i (align_of w p u) (shape-sound w p pointer u).whole in
-      let turned : size_of w p u * i ≡ i * size_of w p u = omega arith in
-      let P : ℕ → Type 0 = λ x. IsMultiple x (align_of w p u) in
+      let q = index-step (nat_lt i n) (place u (i * size_of p u)) to e in
+      let align = ap (λ s. s.align) (shape_of-is p built t (Array u n) k) in
+      let whole = IsMultiple-times (size_of p u) i (align_of p u) (shape-sound p (pointer_aligned p built.numbered) u).whole in
+      let turned : size_of p u * i ≡ i * size_of p u = omega arith in
+      let P : ℕ → Type 0 = λ x. IsMultiple x (align_of p u) in
       subst (IsAlignedPart t) q.1 (record { offset = subst P turned whole; lower = omega (arith, align) })

@@ -30,44 +30,44 @@ module _ (known : Shapes) (sound : (t : ℕ) → IsSound (known t)) where
   IsAlignment-greatest [] = one_byte
   IsAlignment-greatest (f ∷ fs) = IsAlignment-max (sound f.ty).aligned (IsAlignment-greatest fs)
 
-  step-sound : (w : ℕ) (p : Parts) → IsAlignment w → (ty : Ty) → IsSound (shape_step w p known ty)
-  step-sound w p pointer (Int Char) = record { aligned = one_byte; whole = (1, refl) }
-  step-sound w p pointer (Int UChar) = record { aligned = one_byte; whole = (1, refl) }
-  step-sound w p pointer (Int Short) = record { aligned = two_bytes; whole = (1, refl) }
-  step-sound w p pointer (Int UShort) = record { aligned = two_bytes; whole = (1, refl) }
-  step-sound w p pointer (Int Int_kind) = record { aligned = four_bytes; whole = (1, refl) }
-  step-sound w p pointer (Int UInt) = record { aligned = four_bytes; whole = (1, refl) }
-  step-sound w p pointer (Int LongLong) = record { aligned = eight_bytes; whole = (1, refl) }
-  step-sound w p pointer (Int ULongLong) = record { aligned = eight_bytes; whole = (1, refl) }
-  step-sound w p pointer (Pointer t) = record { aligned = pointer; whole = IsMultiple-self w }
-  step-sound w p pointer VoidPointer = record { aligned = pointer; whole = IsMultiple-self w }
-  step-sound w p pointer (Function g) = record { aligned = pointer; whole = IsMultiple-self w }
-  step-sound w p pointer (Struct s) = record {
+  step-sound : (p : Parts) → IsAlignment p.pointer → (ty : Ty) → IsSound (shape_step p known ty)
+  step-sound p pointer (Int Char) = record { aligned = one_byte; whole = (1, refl) }
+  step-sound p pointer (Int UChar) = record { aligned = one_byte; whole = (1, refl) }
+  step-sound p pointer (Int Short) = record { aligned = two_bytes; whole = (1, refl) }
+  step-sound p pointer (Int UShort) = record { aligned = two_bytes; whole = (1, refl) }
+  step-sound p pointer (Int Int_kind) = record { aligned = four_bytes; whole = (1, refl) }
+  step-sound p pointer (Int UInt) = record { aligned = four_bytes; whole = (1, refl) }
+  step-sound p pointer (Int LongLong) = record { aligned = eight_bytes; whole = (1, refl) }
+  step-sound p pointer (Int ULongLong) = record { aligned = eight_bytes; whole = (1, refl) }
+  step-sound p pointer (Pointer t) = record { aligned = pointer; whole = IsMultiple-self p.pointer }
+  step-sound p pointer VoidPointer = record { aligned = pointer; whole = IsMultiple-self p.pointer }
+  step-sound p pointer (Function g) = record { aligned = pointer; whole = IsMultiple-self p.pointer }
+  step-sound p pointer (Struct s) = record {
     aligned = IsAlignment-greatest (fields_of p s);
     whole = IsMultiple-next (fields_end known 0 (fields_of p s)) (greatest_align known (fields_of p s));
   }
-  step-sound w p pointer (Union u) =
+  step-sound p pointer (Union u) =
       let members = members_of p u in
       record {
         aligned = IsAlignment-max four_bytes (IsAlignment-greatest members);
         whole = IsMultiple-next (members_start known members + greatest_size known members) (union_align known members);
       }
-  step-sound w p pointer (Array t n) = record {
+  step-sound p pointer (Array t n) = record {
     aligned = (sound t).aligned;
     whole = IsMultiple-times (known t).size n (known t).align (sound t).whole;
   }
 
-module _ (w : ℕ) (p : Parts) (pointer : IsAlignment w) where
-  fuel-sound : (k t : ℕ) → IsSound (by_fuel p (shape_step w p) (shape 0 1) k t)
+module _ (p : Parts) (pointer : IsAlignment p.pointer) where
+  fuel-sound : (k t : ℕ) → IsSound (by_fuel p (shape_step p) (shape 0 1) k t)
   fuel-sound zero t = record { aligned = one_byte; whole = (0, refl) }
   fuel-sound (suc k) t = by_entry (slice_get p.types t) (fuel-sound k)
     where
-      by_entry : (o : Option Ty) → ((u : ℕ) → IsSound (by_fuel p (shape_step w p) (shape 0 1) k u)) → IsSound (at_type (shape_step w p (by_fuel p (shape_step w p) (shape 0 1) k)) (shape 0 1) o)
+      by_entry : (o : Option Ty) → ((u : ℕ) → IsSound (by_fuel p (shape_step p) (shape 0 1) k u)) → IsSound (at_type (shape_step p (by_fuel p (shape_step p) (shape 0 1) k)) (shape 0 1) o)
       by_entry None sound = record { aligned = one_byte; whole = (0, refl) }
-      by_entry (Some ty) sound = step-sound (by_fuel p (shape_step w p) (shape 0 1) k) sound w p pointer ty
+      by_entry (Some ty) sound = step-sound (by_fuel p (shape_step p) (shape 0 1) k) sound p pointer ty
 
   -- every type has an alignment, and its size is a multiple of it
-  pub shape-sound : (t : ℕ) → IsSound (shape_of w p t)
+  pub shape-sound : (t : ℕ) → IsSound (shape_of p t)
   shape-sound t = fuel-sound (length p.types) t
 
 -- the shape of a type asks only of the types that it holds
@@ -93,18 +93,18 @@ module _ (f g : Shapes) where
       let rest = end-local fs (λ u c. same u (suc c.0, omega (arith, c.1), c.2)) (field_end g end d) in
       ap (λ (s : Shape). fields_end f (next_multiple end s.align + s.size) fs) here ∙ rest
 
-pub shape_step-local : (w : ℕ) (p : Parts) → IsLocal p (shape_step w p)
-shape_step-local w p f g (Int k) same = refl
-shape_step-local w p f g (Pointer t) same = refl
-shape_step-local w p f g VoidPointer same = refl
-shape_step-local w p f g (Function i) same = refl
-shape_step-local w p f g (Struct s) same =
+pub shape_step-local : (p : Parts) → IsLocal p (shape_step p)
+shape_step-local p f g (Int k) same = refl
+shape_step-local p f g (Pointer t) same = refl
+shape_step-local p f g VoidPointer same = refl
+shape_step-local p f g (Function i) same = refl
+shape_step-local p f g (Struct s) same =
     ap (λ end. shape (next_multiple end (greatest_align f (fields_of p s))) (greatest_align f (fields_of p s))) (end-local f g (fields_of p s) same 0)
     ∙ ap (λ a. shape (next_multiple (fields_end g 0 (fields_of p s)) a) a) (align-local f g (fields_of p s) same)
-shape_step-local w p f g (Union u) same =
+shape_step-local p f g (Union u) same =
     ap (λ n. shape (next_multiple (members_start f (members_of p u) + n) (union_align f (members_of p u))) (union_align f (members_of p u))) (size-local f g (members_of p u) same)
     ∙ ap (λ a. shape (next_multiple (next_multiple 4 a + greatest_size g (members_of p u)) (max 4 a)) (max 4 a)) (align-local f g (members_of p u) same)
-shape_step-local w p f g (Array t n) same = ap (λ (s : Shape). shape (s.size * n) s.align) (same t (0, omega arith, refl))
+shape_step-local p f g (Array t n) same = ap (λ (s : Shape). shape (s.size * n) s.align) (same t (0, omega arith, refl))
 
 -- an entry among those before and after it
 pub get-after : {A : Type 0} (xs ys : List A) (k : ℕ) → slice_get (xs ++ ys) (length xs + k) ≡ slice_get ys k
@@ -130,14 +130,14 @@ struct-entry : (p : Parts) (s : ℕ) (tag : TagDef) → slice_get p.structs s �
 struct-entry p s tag e =
     get-after (map type_entry p.types) _ s ∙ get-before (map tag_entry p.structs) (map tag_entry p.unions ++ map signature_entry p.signatures) s (tag_entry tag) (get-map tag_entry p.structs s tag e)
 
-module _ (w : ℕ) (p : Parts) (built : IsBuilt w p) where
+module _ (p : Parts) (built : IsBuilt p) where
   pub settled : (t : ℕ) → t < length p.types → is_settled (held_by p) (length p.types) t ≡ true
   settled t h = settled_all (held_by p) (length p.types) (held_known p built.numbered) (λ x c. built.acyclic x (inl c)) t h
 
   -- the equation of a shape
-  pub shape_of-is : (t : ℕ) (ty : Ty) → slice_get p.types t ≡ Some ty → shape_of w p t ≡ shape_step w p (shape_of w p) ty
+  pub shape_of-is : (t : ℕ) (ty : Ty) → slice_get p.types t ≡ Some ty → shape_of p t ≡ shape_step p (shape_of p) ty
   shape_of-is t ty e =
-      by_type-is p (shape_step w p) (shape 0 1) (shape_step-local w p) t (settled t (slice_get_within p.types t ty e)) ∙ ap (at_type (shape_step w p (shape_of w p)) (shape 0 1)) e
+      by_type-is p (shape_step p) (shape 0 1) (shape_step-local p) t (settled t (slice_get_within p.types t ty e)) ∙ ap (at_type (shape_step p (shape_of p)) (shape 0 1)) e
 
   pub struct-some : (t s : ℕ) → slice_get p.types t ≡ Some (Struct s) → fields_of p s ≡ [] → ⊥
   struct-some t s e none =
@@ -156,7 +156,7 @@ module _ (w : ℕ) (p : Parts) (built : IsBuilt w p) where
 
       by_test : (b : Bool) → nat_lt 0 n ≡ b → 1 ≤ n
       by_test true h = grind (arith, nat_tests)
-      by_test false h = absurd (built.small t (or_right (nat_lt greatest (size_of w p t)) _ (bad h)))
+      by_test false h = absurd (built.small t (or_right (nat_lt greatest (size_of p t)) _ (bad h)))
         where
           or_right : (a b : Bool) → b ≡ true → a || b ≡ true
           or_right true b h = refl

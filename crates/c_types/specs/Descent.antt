@@ -25,20 +25,20 @@ abbrev pub part_in_array : ℕ → ℕ → ℕ → ℕ → Option Part
 part_in_array t size n offset = if nat_lt (offset / size) n then Some (part (Index (offset / size)) t (offset % size)) else None
 
 -- the part of a struct or an array that has the byte at an offset
-abbrev pub part_at : ℕ → Parts → ℕ → Option Ty → Option Part
-part_at w p offset (Some (Struct s)) = part_in_fields (shape_of w p) 0 (fields_of p s) 0 offset
-part_at w p offset (Some (Array t n)) = part_in_array t (size_of w p t) n offset
-part_at w p offset _ = None
+abbrev pub part_at : Parts → ℕ → Option Ty → Option Part
+part_at p offset (Some (Struct s)) = part_in_fields (shape_of p) 0 (fields_of p s) 0 offset
+part_at p offset (Some (Array t n)) = part_in_array t (size_of p t) n offset
+part_at p offset _ = None
 
 abbrev pub is_here : ℕ → ℕ → ℕ → Bool
 is_here t offset want = nat_eq t want && nat_eq offset 0
 
 -- the path to the place of type `want`, by at most so many steps
-abbrev pub descend : ℕ → Parts → ℕ → ℕ → ℕ → ℕ → Option (List Step)
-descend w p zero t offset want = None
-descend w p (suc n) t offset want =
-    if is_here t offset want then Some [] else then_option (part_at w p offset (slice_get p.types t)) (λ q. option_map (λ path. q.step ∷ path) (descend w p n q.ty q.rest want))
+abbrev pub descend : Parts → ℕ → ℕ → ℕ → ℕ → Option (List Step)
+descend p zero t offset want = None
+descend p (suc n) t offset want =
+    if is_here t offset want then Some [] else then_option (part_at p offset (slice_get p.types t)) (λ q. option_map (λ path. q.step ∷ path) (descend p n q.ty q.rest want))
 
-abbrev pub find_place : ℕ → Parts → ℕ → ℕ → ℕ → ℕ → Option (List Step)
-find_place w p elem count offset want =
-    then_option (part_in_array elem (size_of w p elem) count offset) (λ q. option_map (λ path. q.step ∷ path) (descend w p (length p.types) q.ty q.rest want))
+abbrev pub find_place : Parts → ℕ → ℕ → ℕ → ℕ → Option (List Step)
+find_place p elem count offset want =
+    then_option (part_in_array elem (size_of p elem) count offset) (λ q. option_map (λ path. q.step ∷ path) (descend p (length p.types) q.ty q.rest want))

@@ -7,10 +7,10 @@ use Rattle.c_types.specs.Rounds.{shape_at, capped}
 use Rattle.c_types.specs.Refusal.{IsBuilt}
 
 -- the shapes with their sizes capped
-abbrev pub AreCapped : ℕ → Parts → List Shape → Type 0
-AreCapped w p shapes = (t : ℕ) → shape_at shapes t ≡ capped (shape_of w p t)
+abbrev pub AreCapped : Parts → List Shape → Type 0
+AreCapped p shapes = (t : ℕ) → shape_at shapes t ≡ capped (shape_of p t)
 
 -- the parts of a table, and the shapes of its types
-pub record IsKept (w : ℕ) (p : Parts) (shapes : List Shape) : Type 0 where
-  pub built : IsBuilt w p
-  pub each : (t : ℕ) → shape_at shapes t ≡ shape_of w p t
+pub record IsKept (p : Parts) (shapes : List Shape) : Type 0 where
+  pub built : IsBuilt p
+  pub each : (t : ℕ) → shape_at shapes t ≡ shape_of p t

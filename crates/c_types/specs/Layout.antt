@@ -1,4 +1,4 @@
--- Size, alignment and offsets, all in bytes, by recursion on types. `w` is the size of a pointer.
+-- Size, alignment and offsets, all in bytes, by recursion on types. A pointer has the size that the table says.
 use Rattle.std.specs.Prelude.{◌≡◌, ◌⊎◌, ℕ, zero, suc, ◌+◌, ◌-◌, ◌*◌, ◌/◌, ◌^◌, max, List, [], ◌∷◌}
 use Rattle.c_types.specs.declared.parts.IntKind.{IntKind}
 use Rattle.c_types.specs.declared.parts.IntKind.TheVariants.{Char, UChar, Short, UShort, Int as Int_kind, UInt, LongLong, ULongLong}
@@ -84,28 +84,28 @@ union_shape known members =
     shape (next_multiple (members_start known members + greatest_size known members) (union_align known members)) (union_align known members)
 
 -- the shape of a type, from the shapes of those that it holds
-abbrev pub shape_step : ℕ → Parts → Shapes → Ty → Shape
-shape_step w p known (Int k) = shape (int_size k) (int_size k)
-shape_step w p known (Pointer t) = shape w w
-shape_step w p known VoidPointer = shape w w
-shape_step w p known (Function g) = shape w w
-shape_step w p known (Struct s) = struct_shape known (fields_of p s)
-shape_step w p known (Union u) = union_shape known (members_of p u)
-shape_step w p known (Array t n) = shape ((known t).size * n) (known t).align
+abbrev pub shape_step : Parts → Shapes → Ty → Shape
+shape_step p known (Int k) = shape (int_size k) (int_size k)
+shape_step p known (Pointer t) = shape p.pointer p.pointer
+shape_step p known VoidPointer = shape p.pointer p.pointer
+shape_step p known (Function g) = shape p.pointer p.pointer
+shape_step p known (Struct s) = struct_shape known (fields_of p s)
+shape_step p known (Union u) = union_shape known (members_of p u)
+shape_step p known (Array t n) = shape ((known t).size * n) (known t).align
 
-abbrev pub shape_of : ℕ → Parts → Shapes
-shape_of w p = by_type p (shape_step w p) (shape 0 1)
+abbrev pub shape_of : Parts → Shapes
+shape_of p = by_type p (shape_step p) (shape 0 1)
 
-abbrev pub size_of : ℕ → Parts → ℕ → ℕ
-size_of w p t = (shape_of w p t).size
+abbrev pub size_of : Parts → ℕ → ℕ
+size_of p t = (shape_of p t).size
 
-abbrev pub align_of : ℕ → Parts → ℕ → ℕ
-align_of w p t = (shape_of w p t).align
+abbrev pub align_of : Parts → ℕ → ℕ
+align_of p t = (shape_of p t).align
 
 -- where field k of a struct begins
-abbrev pub field_offset : ℕ → Parts → ℕ → ℕ → ℕ
-field_offset w p s k = nth_start (shape_of w p) 0 (fields_of p s) k
+abbrev pub field_offset : Parts → ℕ → ℕ → ℕ
+field_offset p s k = nth_start (shape_of p) 0 (fields_of p s) k
 
 -- where the members of a union begin
-abbrev pub member_offset : ℕ → Parts → ℕ → ℕ
-member_offset w p u = members_start (shape_of w p) (members_of p u)
+abbrev pub member_offset : Parts → ℕ → ℕ
+member_offset p u = members_start (shape_of p) (members_of p u)

@@ -1,5 +1,5 @@
--- Each number names an entry.
-use Rattle.std.specs.Prelude.{ℕ, ◌^◌, ◌-◌, Bool, true, false, ◌&&◌, not, nat_lt, List, length, Option, Some, slice_get}
+-- Each number names an entry, and a pointer has a size.
+use Rattle.std.specs.Prelude.{ℕ, ◌^◌, ◌-◌, Bool, true, false, ◌&&◌, ◌||◌, not, nat_eq, nat_lt, List, length, Option, Some, slice_get}
 use Rattle.std.specs.List.{list_all}
 use Rattle.std.specs.Option.{option_map_or}
 use Rattle.c_types.specs.declared.parts.Ty.{Ty}
@@ -7,6 +7,10 @@ use Rattle.c_types.specs.declared.parts.Ty.TheVariants.{Int, Pointer, VoidPointe
 use Rattle.c_types.specs.declared.parts.TagDef.{TagDef}
 use Rattle.c_types.specs.declared.parts.Signature.{Signature}
 use Rattle.c_types.specs.declared.parts.Parts.{Parts}
+
+-- a pointer takes 4 or 8 bytes
+abbrev pub is_pointer_size : ℕ → Bool
+is_pointer_size w = nat_eq w 4 || nat_eq w 8
 
 -- a list may have so many entries
 abbrev pub is_countable : {A : Type 0} → List A → Bool
@@ -42,4 +46,4 @@ are_countable p =
 
 abbrev pub is_well_numbered : Parts → Bool
 is_well_numbered p =
-    are_countable p && (list_all (type_is_numbered p) p.types && (list_all (tag_is_numbered p) p.structs && (list_all (tag_is_numbered p) p.unions && list_all (signature_is_numbered p) p.signatures)))
+    are_countable p && (list_all (type_is_numbered p) p.types && (list_all (tag_is_numbered p) p.structs && (list_all (tag_is_numbered p) p.unions && (list_all (signature_is_numbered p) p.signatures && is_pointer_size p.pointer))))

@@ -63,24 +63,24 @@ has_bad_length (Some (Array t n)) = not (nat_lt 0 n && nat_le n greatest)
 has_bad_length _ = false
 
 -- a size above the greatest, or a length that is none or above the greatest
-abbrev pub is_too_big : ℕ → Parts → ℕ → Bool
-is_too_big w p t = nat_lt greatest (size_of w p t) || has_bad_length (slice_get p.types t)
+abbrev pub is_too_big : Parts → ℕ → Bool
+is_too_big p t = nat_lt greatest (size_of p t) || has_bad_length (slice_get p.types t)
 
-abbrev pub IsTooBig : ℕ → Parts → ℕ → Type 0
-IsTooBig w p t = IsTrue (is_too_big w p t)
+abbrev pub IsTooBig : Parts → ℕ → Type 0
+IsTooBig p t = IsTrue (is_too_big p t)
 
 -- what every table of types has
-pub record IsBuilt (w : ℕ) (p : Parts) : Type 0 where
+pub record IsBuilt (p : Parts) : Type 0 where
   pub numbered : is_well_numbered p ≡ true
   pub distinct : NoneIs (IsDuplicate p)
   pub full : NoneIs (IsEmpty p)
   pub acyclic : NoneIs (IsCyclic p)
-  pub small : NoneIs (IsTooBig w p)
+  pub small : NoneIs (IsTooBig p)
 
 -- a table is refused so: no earlier cause applies, and the number is the least
-abbrev pub Refuses : ℕ → Parts → BuildError → Type 0
-Refuses w p (Duplicate n) = IsLeast (IsDuplicate p) n
-Refuses w p (Empty n) = NoneIs (IsDuplicate p) × IsLeast (IsEmpty p) n
-Refuses w p (Cycle t) = NoneIs (IsDuplicate p) × NoneIs (IsEmpty p) × IsLeast (IsCyclic p) t
-Refuses w p (TooBig t) = NoneIs (IsDuplicate p) × NoneIs (IsEmpty p) × NoneIs (IsCyclic p) × IsLeast (IsTooBig w p) t
-Refuses w p Memory = Unit {0}
+abbrev pub Refuses : Parts → BuildError → Type 0
+Refuses p (Duplicate n) = IsLeast (IsDuplicate p) n
+Refuses p (Empty n) = NoneIs (IsDuplicate p) × IsLeast (IsEmpty p) n
+Refuses p (Cycle t) = NoneIs (IsDuplicate p) × NoneIs (IsEmpty p) × IsLeast (IsCyclic p) t
+Refuses p (TooBig t) = NoneIs (IsDuplicate p) × NoneIs (IsEmpty p) × NoneIs (IsCyclic p) × IsLeast (IsTooBig p) t
+Refuses p Memory = Unit {0}

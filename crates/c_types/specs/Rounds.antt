@@ -37,12 +37,12 @@ shape_at shapes t = unwrap_or (slice_get shapes t) (shape 0 1)
 abbrev pub capped : Shape → Shape
 capped s = shape (min s.size (greatest + 1)) s.align
 
-abbrev pub round_shape : ℕ → Parts → List Shape → Ty → Shape
-round_shape w p shapes ty = capped (shape_step w p (shape_at shapes) ty)
+abbrev pub round_shape : Parts → List Shape → Ty → Shape
+round_shape p shapes ty = capped (shape_step p (shape_at shapes) ty)
 
-abbrev pub shape_rounds : ℕ → Parts → ℕ → List Shape
-shape_rounds w p zero = replicate (length p.types) (shape 0 1)
-shape_rounds w p (suc k) = map (round_shape w p (shape_rounds w p k)) p.types
+abbrev pub shape_rounds : Parts → ℕ → List Shape
+shape_rounds p zero = replicate (length p.types) (shape 0 1)
+shape_rounds p (suc k) = map (round_shape p (shape_rounds p k)) p.types
 
 -- what keeps sums of sizes small
 pub record IsSmall (s : Shape) : Type 0 where

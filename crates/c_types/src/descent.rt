@@ -10,7 +10,7 @@ ghost use Rattle.c_types.specs.Kept.{IsKept};
 ghost use Rattle.c_types.specs.Place.{shifted, step_place, path_place};
 ghost use Rattle.c_types.specs.Descent.{part, part_in_fields, part_in_array, part_at};
 
-use crate::parts::{FieldDef, POINTER_SIZE, Parts, Ty, TyId};
+use crate::parts::{FieldDef, Parts, Ty, TyId};
 use crate::path::{Place, Step};
 use crate::shape::{Shape, fields_end, members_start, next_multiple, shape_at};
 
@@ -45,9 +45,9 @@ fn nth_start(shapes: &[Shape], fields: &[FieldDef], number: u32, field: FieldDef
 
 /// A field of a struct type; none where the type is no struct.
 fn field_place(parts: &Parts, shapes: &[Shape], number: TyId, k: u32) -> Option<Place>
-    requires { IsKept POINTER_SIZE parts.now shapes.now }
+    requires { IsKept parts.now shapes.now }
     ensures { result
-        ≡ step_place POINTER_SIZE parts.now (slice_get parts.now.types number) (Step.Field k) }
+        ≡ step_place parts.now (slice_get parts.now.types number) (Step.Field k) }
 {
     let Some(Ty::Struct(tag)) = parts.find_type(number) else {
         return None;
@@ -62,9 +62,9 @@ fn field_place(parts: &Parts, shapes: &[Shape], number: TyId, k: u32) -> Option<
 
 /// A member of a union type; none where the type is no union.
 fn member_place(parts: &Parts, shapes: &[Shape], number: TyId, k: u32) -> Option<Place>
-    requires { IsKept POINTER_SIZE parts.now shapes.now }
+    requires { IsKept parts.now shapes.now }
     ensures { result
-        ≡ step_place POINTER_SIZE parts.now (slice_get parts.now.types number) (Step.Member k) }
+        ≡ step_place parts.now (slice_get parts.now.types number) (Step.Member k) }
 {
     let Some(Ty::Union(tag)) = parts.find_type(number) else {
         return None;
@@ -79,9 +79,9 @@ fn member_place(parts: &Parts, shapes: &[Shape], number: TyId, k: u32) -> Option
 
 /// An element of an array type; none where the type is no array.
 fn element_place(parts: &Parts, shapes: &[Shape], number: TyId, k: u32) -> Option<Place>
-    requires { IsKept POINTER_SIZE parts.now shapes.now }
+    requires { IsKept parts.now shapes.now }
     ensures { result
-        ≡ step_place POINTER_SIZE parts.now (slice_get parts.now.types number) (Step.Index k) }
+        ≡ step_place parts.now (slice_get parts.now.types number) (Step.Index k) }
 {
     let Some(Ty::Array(element, count)) = parts.find_type(number) else {
         return None;
@@ -98,8 +98,8 @@ fn element_place(parts: &Parts, shapes: &[Shape], number: TyId, k: u32) -> Optio
 
 /// The place to which a step leads from a type, if the type has it.
 fn step_place(parts: &Parts, shapes: &[Shape], number: TyId, step: Step) -> Option<Place>
-    requires { IsKept POINTER_SIZE parts.now shapes.now }
-    ensures { result ≡ step_place POINTER_SIZE parts.now (slice_get parts.now.types number) step }
+    requires { IsKept parts.now shapes.now }
+    ensures { result ≡ step_place parts.now (slice_get parts.now.types number) step }
 {
     match step {
         Step::Index(k) => element_place(parts, shapes, number, k),
@@ -110,13 +110,13 @@ fn step_place(parts: &Parts, shapes: &[Shape], number: TyId, step: Step) -> Opti
 
 /// The place one step on from a place.
 fn next_place(parts: &Parts, shapes: &[Shape], at: Place, step: Step) -> Option<Place>
-    requires kept { IsKept POINTER_SIZE parts.now shapes.now }
-    requires inside { at.offset + size_of POINTER_SIZE parts.now at.ty ≤ greatest }
+    requires kept { IsKept parts.now shapes.now }
+    requires inside { at.offset + size_of parts.now at.ty ≤ greatest }
     ensures value { result ≡ then_option
-        (step_place POINTER_SIZE parts.now (slice_get parts.now.types at.ty) step)
+        (step_place parts.now (slice_get parts.now.types at.ty) step)
         (shifted at.offset) }
     ensures inside { IfSome result
-        (λ to. to.offset + size_of POINTER_SIZE parts.now to.ty ≤ greatest) }
+        (λ to. to.offset + size_of parts.now to.ty ≤ greatest) }
 {
     match step_place(parts, shapes, at.ty, step) {
         None => None,
@@ -129,8 +129,8 @@ fn next_place(parts: &Parts, shapes: &[Shape], at: Place, step: Step) -> Option<
 
 /// The place to which a path leads in a type, if it is a path of the type.
 pub fn path_place(parts: &Parts, shapes: &[Shape], number: TyId, path: &[Step]) -> Option<Place>
-    requires { IsKept POINTER_SIZE parts.now shapes.now }
-    ensures { result ≡ path_place POINTER_SIZE parts.now number path.now }
+    requires { IsKept parts.now shapes.now }
+    ensures { result ≡ path_place parts.now number path.now }
 {
     let mut at = Place {
         ty: number,
@@ -198,8 +198,8 @@ pub fn part_in_array(element: TyId, size: u32, count: u32, offset: u32) -> Optio
 
 /// The part of a struct or an array that has a byte.
 pub fn part_at(parts: &Parts, shapes: &[Shape], number: TyId, offset: u32) -> Option<Part>
-    requires { IsKept POINTER_SIZE parts.now shapes.now }
-    ensures { result ≡ part_at POINTER_SIZE parts.now offset (slice_get parts.now.types number) }
+    requires { IsKept parts.now shapes.now }
+    ensures { result ≡ part_at parts.now offset (slice_get parts.now.types number) }
 {
     match parts.find_type(number) {
         Some(Ty::Struct(tag)) => part_in_fields(shapes, parts.fields_of(tag), offset),

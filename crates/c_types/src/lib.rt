@@ -18,7 +18,7 @@ mod table;
 pub use errors::{BuildError, Memory};
 pub use lu_base::Sequence;
 pub use numbering::well_numbered;
-pub use parts::{FieldDef, IntKind, POINTER_SIZE, Parts, Signature, TagDef, Ty, TyId};
+pub use parts::{FieldDef, IntKind, Parts, Signature, TagDef, Ty, TyId};
 pub use path::{Path, Place, Step};
 pub use shape::{GREATEST, Shape};
 pub use table::TypeTable;

@@ -1,11 +1,17 @@
-// Whether each number names an entry.
+// Whether each number names an entry, and a pointer has 4 or 8 bytes.
 
 ghost use Rattle.std.specs.Prelude.{◌≡◌, true, slice_get};
 ghost use Rattle.std.specs.List.{list_all};
 ghost use Rattle.std.specs.Option.{option_map_or};
-ghost use Rattle.c_types.specs.Numbering.{is_countable, names_entry, is_array, type_is_numbered, tag_is_numbered, signature_is_numbered, are_countable, is_well_numbered};
+ghost use Rattle.c_types.specs.Numbering.{is_pointer_size, is_countable, names_entry, is_array, type_is_numbered, tag_is_numbered, signature_is_numbered, are_countable, is_well_numbered};
 
 use crate::parts::{FieldDef, Parts, Signature, TagDef, Ty, TyId};
+
+fn is_pointer_size(size: u32) -> bool
+    ensures { result ≡ is_pointer_size size }
+{
+    size == 4 || size == 8
+}
 
 fn is_countable<T>(items: &[T]) -> bool
     ensures { result ≡ is_countable items.now }
@@ -111,7 +117,7 @@ fn signatures_are_numbered(parts: &Parts, signatures: &[Signature]) -> bool
 }
 
 /// Whether each number of a type, struct, union or signature names an entry, no array's element is an
-/// array, and each list has fewer than 4,294,967,295 entries.
+/// array, each list has fewer than 4,294,967,295 entries, and a pointer takes 4 or 8 bytes.
 pub fn well_numbered(parts: &Parts) -> bool
     ensures { result ≡ is_well_numbered parts.now }
 {
@@ -120,4 +126,5 @@ pub fn well_numbered(parts: &Parts) -> bool
         && tags_are_numbered(parts, parts.structs.as_slice())
         && tags_are_numbered(parts, parts.unions.as_slice())
         && signatures_are_numbered(parts, parts.signatures.as_slice())
+        && is_pointer_size(parts.pointer)
 }

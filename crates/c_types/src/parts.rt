@@ -7,9 +7,6 @@ use std::alloc::{AllocError, Global};
 /// The number of a type in the list of types.
 pub type TyId = u32;
 
-/// The bytes of a pointer, and of a function pointer.
-pub const POINTER_SIZE: u32 = 4;
-
 /// The integer types. All are two's complement, and `Char` is signed.
 #[derive(Clone, Copy, Debug, PartialEq, Eq, Hash)]
 pub enum IntKind {
@@ -60,9 +57,11 @@ pub struct Signature {
     pub params: Sequence<TyId>,
 }
 
-/// The lists of which a table of types is built.
+/// What a table of types is built of.
 #[derive(Debug, Drop)]
 pub struct Parts {
+    /// The bytes of a pointer, and of a function pointer.
+    pub pointer: u32,
     pub types: Sequence<Ty>,
     pub structs: Sequence<TagDef>,
     pub unions: Sequence<TagDef>,
@@ -103,6 +102,7 @@ impl Parts {
         ensures { IfOk result (λ parts. parts ≡ self.now) }
     {
         Ok(Parts {
+            pointer: self.pointer,
             types: self.types.copy(alloc)?,
             structs: copy_tags(alloc, self.structs.as_slice())?,
             unions: copy_tags(alloc, self.unions.as_slice())?,

@@ -6,16 +6,16 @@ ghost use Rattle.c_types.specs.Kept.{IsKept};
 ghost use Rattle.c_types.specs.Descent.{part_in_array, is_here, find_place};
 
 use crate::descent::{Part, part_at, part_in_array};
-use crate::parts::{POINTER_SIZE, Parts, TyId};
+use crate::parts::{Parts, TyId};
 use crate::path::Path;
 use crate::shape::{Shape, shape_at};
 use std::alloc::{AllocError, Global};
 
 /// The element of an object that has a byte.
 fn element_at(parts: &Parts, shapes: &[Shape], elem: TyId, count: u32, offset: u32) -> Option<Part>
-    requires kept { IsKept POINTER_SIZE parts.now shapes.now }
+    requires kept { IsKept parts.now shapes.now }
     requires known { elem < length parts.now.types }
-    ensures { result ≡ part_in_array elem (size_of POINTER_SIZE parts.now elem) count offset }
+    ensures { result ≡ part_in_array elem (size_of parts.now elem) count offset }
 {
     part_in_array(elem, shape_at(shapes, elem).size, count, offset)
 }
@@ -36,10 +36,10 @@ pub fn find_place(
     offset: u32,
     want: TyId,
 ) -> Result<Option<Path>, AllocError>
-    requires kept { IsKept POINTER_SIZE parts.now shapes.now }
+    requires kept { IsKept parts.now shapes.now }
     requires known { elem < length parts.now.types }
     ensures { IfOk result
-        (λ path. path ≡ find_place POINTER_SIZE parts.now elem count offset want) }
+        (λ path. path ≡ find_place parts.now elem count offset want) }
 {
     let Some(first) = element_at(parts, shapes, elem, count, offset) else {
         return Ok(None);
@@ -69,9 +69,9 @@ pub fn has_place(
     offset: u32,
     want: TyId,
 ) -> bool
-    requires kept { IsKept POINTER_SIZE parts.now shapes.now }
+    requires kept { IsKept parts.now shapes.now }
     requires known { elem < length parts.now.types }
-    ensures { result ≡ is_some (find_place POINTER_SIZE parts.now elem count offset want) }
+    ensures { result ≡ is_some (find_place parts.now elem count offset want) }
 {
     let Some(first) = element_at(parts, shapes, elem, count, offset) else {
         return false;

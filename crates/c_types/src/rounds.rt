@@ -5,7 +5,7 @@ ghost use Rattle.std.specs.List.{list_any};
 ghost use Rattle.c_types.specs.Numbering.{is_well_numbered};
 ghost use Rattle.c_types.specs.Rounds.{shape_at, shape_rounds, round_shape, AreSmall, is_marked, round_mark, mark_rounds};
 
-use crate::parts::{FieldDef, POINTER_SIZE, Parts, Ty, TyId};
+use crate::parts::{FieldDef, Parts, Ty, TyId};
 use crate::shape::{Shape, type_shape};
 use std::alloc::{AllocError, Global};
 
@@ -24,7 +24,7 @@ fn next_shapes(alloc: Global, parts: &Parts, shapes: &[Shape]) -> Result<Vec<Sha
     requires numbered { IsTrue (is_well_numbered parts.now) }
     requires known { AreSmall (shape_at shapes.now) }
     ensures value { IfOk result (λ next. next.items
-        ≡ map (round_shape POINTER_SIZE parts.now shapes.now) parts.now.types) }
+        ≡ map (round_shape parts.now shapes.now) parts.now.types) }
     ensures small { IfOk result (λ next. AreSmall (shape_at next.items)) }
 {
     let mut next = Vec::new(alloc);
@@ -44,7 +44,7 @@ fn same_shapes(a: &[Shape], b: &[Shape]) -> bool
 pub fn all_shapes(alloc: Global, parts: &Parts) -> Result<Vec<Shape>, AllocError>
     requires { IsTrue (is_well_numbered parts.now) }
     ensures value { IfOk result (λ shapes. shapes.items
-        ≡ shape_rounds POINTER_SIZE parts.now (length parts.now.types)) }
+        ≡ shape_rounds parts.now (length parts.now.types)) }
     ensures small { IfOk result (λ shapes. AreSmall (shape_at shapes.items)) }
 {
     let count = parts.types.as_slice().len();

@@ -5,7 +5,7 @@ ghost use Rattle.c_types.specs.Numbering.{is_well_numbered};
 ghost use Rattle.c_types.specs.Layout.{greatest, shape, next_multiple, int_size, greatest_align, greatest_size, fields_end, members_start, struct_shape, union_shape};
 ghost use Rattle.c_types.specs.Rounds.{shape_at, capped, round_shape, IsSmall, AreSmall};
 
-use crate::parts::{FieldDef, IntKind, POINTER_SIZE, Parts, Ty, TyId};
+use crate::parts::{FieldDef, IntKind, Parts, Ty, TyId};
 
 /// The greatest size of a type in bytes, and the greatest length of an array.
 pub const GREATEST: u32 = 1_048_576;
@@ -163,14 +163,14 @@ fn array_shape(element: Shape, count: u32) -> Shape
 pub fn type_shape(parts: &Parts, shapes: &[Shape], ty: Ty) -> Shape
     requires numbered { IsTrue (is_well_numbered parts.now) }
     requires known { AreSmall (shape_at shapes.now) }
-    ensures value { result ≡ round_shape POINTER_SIZE parts.now shapes.now ty }
+    ensures value { result ≡ round_shape parts.now shapes.now ty }
     ensures small { IsSmall result }
 {
     match ty {
         Ty::Int(kind) => int_shape(kind),
         Ty::Pointer(_) | Ty::VoidPointer | Ty::Function(_) => Shape {
-            size: POINTER_SIZE,
-            align: POINTER_SIZE,
+            size: parts.pointer,
+            align: parts.pointer,
         },
         Ty::Struct(number) => struct_shape(shapes, parts.fields_of(number)),
         Ty::Union(number) => union_shape(shapes, parts.members_of(number)),

@@ -2,7 +2,7 @@
 
 ghost use Rattle.std.specs.Prelude.{◌≡◌, ◌<◌, length, IsTrue, IfOk, IfErr, OnOk, MatchBool, MatchOption};
 ghost use Rattle.c_types.specs.Numbering.{is_well_numbered};
-ghost use Rattle.c_types.specs.Layout.{size_of, align_of};
+ghost use Rattle.c_types.specs.Layout.{IsPointerSize, size_of, align_of};
 ghost use Rattle.c_types.specs.Place.{path_offset, path_type, IsPlaceAt, HasPlaceAt, HasNoPlaceAt};
 ghost use Rattle.c_types.specs.Refusal.{has_bad_length, is_too_big, IsTooBig, IsBuilt, Refuses};
 ghost use Rattle.c_types.specs.Words.{IsFirst};
@@ -12,7 +12,7 @@ use crate::cycles::first_cycle;
 use crate::descent::path_place;
 use crate::duplicates::{first_duplicate, first_empty};
 use crate::errors::{BuildError, Memory};
-use crate::parts::{POINTER_SIZE, Parts, Ty, TyId};
+use crate::parts::{Parts, Ty, TyId};
 use crate::path::{Path, Step};
 use crate::places::{find_place, has_place};
 use crate::rounds::all_shapes;
@@ -29,7 +29,6 @@ pub struct TypeTable {
 
 impl Model for TypeTable {
     ghost use Rattle.c_types.specs.declared.parts.Parts.{Parts};
-    ghost use Rattle.c_types.specs.declared.parts.TheConstants.{POINTER_SIZE};
 
     ghost Value = { Parts };
 
@@ -37,7 +36,7 @@ impl Model for TypeTable {
 
     ghost view = { λ t. t.parts };
 
-    ghost invariant = { λ t. IsKept POINTER_SIZE t.parts t.shapes.items };
+    ghost invariant = { λ t. IsKept t.parts t.shapes.items };
 }
 
 fn has_bad_length(ty: Option<Ty>) -> bool
@@ -50,8 +49,8 @@ fn has_bad_length(ty: Option<Ty>) -> bool
 }
 
 fn is_too_big(parts: &Parts, shapes: &[Shape], number: TyId) -> bool
-    requires { AreCapped POINTER_SIZE parts.now shapes.now }
-    ensures { result ≡ is_too_big POINTER_SIZE parts.now number }
+    requires { AreCapped parts.now shapes.now }
+    ensures { result ≡ is_too_big parts.now number }
 {
     GREATEST < shape_at(shapes, number).size || has_bad_length(parts.find_type(number))
 }
@@ -59,8 +58,8 @@ fn is_too_big(parts: &Parts, shapes: &[Shape], number: TyId) -> bool
 /// The first type whose size is above the greatest, or whose length is none or above the greatest.
 fn first_too_big(parts: &Parts, shapes: &[Shape]) -> Option<TyId>
     requires numbered { IsTrue (is_well_numbered parts.now) }
-    requires shapes { AreCapped POINTER_SIZE parts.now shapes.now }
-    ensures { IsFirst (IsTooBig POINTER_SIZE parts.now) result }
+    requires shapes { AreCapped parts.now shapes.now }
+    ensures { IsFirst (IsTooBig parts.now) result }
 {
     for number in 0..parts.types.as_slice().len() {
         let number = number as TyId;
@@ -76,8 +75,8 @@ impl TypeTable {
     pub fn build(alloc: Global, parts: Parts) -> Result<TypeTable, BuildError>
         requires { IsTrue (is_well_numbered parts) }
         ensures table { IfOk result (λ table. table ≡ parts) }
-        ensures built { OnOk result (IsBuilt POINTER_SIZE parts) }
-        ensures refused { IfErr result (Refuses POINTER_SIZE parts) }
+        ensures built { OnOk result (IsBuilt parts) }
+        ensures refused { IfErr result (Refuses parts) }
     {
         if let Some(number) = first_duplicate(alloc, &parts)? {
             return Err(BuildError::Duplicate(number));
@@ -98,21 +97,29 @@ impl TypeTable {
     /// The parts of which the table was built.
     pub fn parts(&self) -> &Parts
         ensures value { result.now ≡ self.now }
-        ensures built { IsBuilt POINTER_SIZE self.now }
+        ensures built { IsBuilt self.now }
     {
         &self.parts
     }
 
+    /// The bytes of a pointer, and of a function pointer.
+    pub fn pointer(&self) -> u32
+        ensures value { result ≡ self.now.pointer }
+        ensures size { IsPointerSize result }
+    {
+        self.parts.pointer
+    }
+
     /// The bytes of a type; 0 where there is no such type.
     pub fn size_of(&self, number: TyId) -> u32
-        ensures { result ≡ size_of POINTER_SIZE self.now number }
+        ensures { result ≡ size_of self.now number }
     {
         shape_at(&self.shapes, number).size
     }
 
     /// The alignment of a type in bytes; 1 where there is no such type.
     pub fn align_of(&self, number: TyId) -> u32
-        ensures { result ≡ align_of POINTER_SIZE self.now number }
+        ensures { result ≡ align_of self.now number }
     {
         shape_at(&self.shapes, number).align
     }
@@ -130,7 +137,7 @@ impl TypeTable {
     /// The bytes from the start of a type to where a path of it leads; 0 where it is no path of the
     /// type.
     pub fn offset_of(&self, number: TyId, path: &[Step]) -> u32
-        ensures { result ≡ path_offset POINTER_SIZE self.now number path.now }
+        ensures { result ≡ path_offset self.now number path.now }
     {
         match path_place(&self.parts, &self.shapes, number, path) {
             None => 0,
@@ -140,7 +147,7 @@ impl TypeTable {
 
     /// The type to which a path of a type leads; the type itself where it is no path of it.
     pub fn type_at(&self, number: TyId, path: &[Step]) -> TyId
-        ensures { result ≡ path_type POINTER_SIZE self.now number path.now }
+        ensures { result ≡ path_type self.now number path.now }
     {
         match path_place(&self.parts, &self.shapes, number, path) {
             None => number,
@@ -160,8 +167,8 @@ impl TypeTable {
     ) -> Result<Option<Path>, Memory>
         requires { elem < length self.now.types }
         ensures { IfOk result (λ found. MatchOption found
-            (HasNoPlaceAt POINTER_SIZE self.now elem count offset want)
-            (IsPlaceAt POINTER_SIZE self.now elem count offset want)) }
+            (HasNoPlaceAt self.now elem count offset want)
+            (IsPlaceAt self.now elem count offset want)) }
     {
         Ok(find_place(alloc, &self.parts, &self.shapes, elem, count, offset, want)?)
     }
@@ -170,8 +177,8 @@ impl TypeTable {
     pub fn fits(&self, elem: TyId, count: u32, offset: u32, want: TyId) -> bool
         requires { elem < length self.now.types }
         ensures { MatchBool result
-            (HasPlaceAt POINTER_SIZE self.now elem count offset want)
-            (HasNoPlaceAt POINTER_SIZE self.now elem count offset want) }
+            (HasPlaceAt self.now elem count offset want)
+            (HasNoPlaceAt self.now elem count offset want) }
     {
         has_place(&self.parts, &self.shapes, elem, count, offset, want)
     }

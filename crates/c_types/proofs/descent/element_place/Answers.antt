@@ -13,9 +13,9 @@ overflow_mul-result c =
     let u = c.in-Some-Array.element in
     let ty : slice_get p.types c.args.number ≡ Some (Array u c.in-Some-Array.count) = cc in
     let lt : nat_lt c.args.k c.in-Some-Array.count ≡ true = (let h = c.if-k-count.true in grind (arith, nat_tests)) in
-    let leads : step_place 4 p (slice_get p.types c.args.number) (Index c.args.k) ≡ Some (place u (c.args.k * size_of 4 p u)) =
-    ap (λ o. step_place 4 p o (Index c.args.k)) ty ∙ ap (λ b. if b then Some (place u (c.args.k * size_of 4 p u)) else None) lt
+    let leads : step_place p (slice_get p.types c.args.number) (Index c.args.k) ≡ Some (place u (c.args.k * size_of p u)) =
+    ap (λ o. step_place p o (Index c.args.k)) ty ∙ ap (λ b. if b then Some (place u (c.args.k * size_of p u)) else None) lt
     in
-    let small = step-small p c.args.shapes.now c.requires c.args.number (Index c.args.k) (place u (c.args.k * size_of 4 p u)) leads in
+    let small = step-small p c.args.shapes.now c.requires c.args.number (Index c.args.k) (place u (c.args.k * size_of p u)) leads in
     let size = ap (λ s. c.args.k * s.size) (c.shape_at.ensures ∙ c.requires.each u) in
     omega (arith, small, size)

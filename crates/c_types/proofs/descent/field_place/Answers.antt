@@ -25,9 +25,9 @@ overflow_cast-result c =
     let f = c.in_ok-field.field in
     let ty : slice_get p.types c.args.number ≡ Some (Struct tag) = cc in
     let entry : slice_get (fields_of p tag) c.args.k ≡ Some f = ap (λ fields. slice_get fields c.args.k) (sym c.fields_of-fields.ensures) ∙ sym c.in_ok-field.ensures in
-    let leads : step_place 4 p (slice_get p.types c.args.number) (Field c.args.k) ≡ Some (place f.ty (field_offset 4 p tag c.args.k)) =
-    ap (λ o. step_place 4 p o (Field c.args.k)) ty ∙ ap (option_map (λ f. place f.ty (field_offset 4 p tag c.args.k))) entry
+    let leads : step_place p (slice_get p.types c.args.number) (Field c.args.k) ≡ Some (place f.ty (field_offset p tag c.args.k)) =
+    ap (λ o. step_place p o (Field c.args.k)) ty ∙ ap (option_map (λ f. place f.ty (field_offset p tag c.args.k))) entry
     in
-    let small = step-small p c.args.shapes.now c.requires c.args.number (Field c.args.k) (place f.ty (field_offset 4 p tag c.args.k)) leads in
+    let small = step-small p c.args.shapes.now c.requires c.args.number (Field c.args.k) (place f.ty (field_offset p tag c.args.k)) leads in
     let start = c.nth_start.ensures ∙ (ap (λ fields. nth_start (shape_at c.args.shapes.now) 0 fields c.args.k) c.fields_of-fields.ensures ∙ ap (λ known. nth_start known 0 (fields_of p tag) c.args.k) (same-shapes p c.args.shapes.now c.requires)) in
     omega (arith, small, start)

@@ -19,10 +19,10 @@ returns c =
     let f = c.in_ok-member.member in
     let ty : slice_get p.types c.args.number ≡ Some (Union tag) = cc in
     let entry : slice_get (members_of p tag) c.args.k ≡ Some f = ap (λ fields. slice_get fields c.args.k) (sym c.members_of-members.ensures) ∙ sym c.in_ok-member.ensures in
-    let start : c.members_start.result ≡ member_offset 4 p tag =
+    let start : c.members_start.result ≡ member_offset p tag =
     c.members_start.ensures.value
     ∙ (ap (members_start (shape_at c.args.shapes.now)) c.members_of-members.ensures
     ∙ ap (λ (known : Shapes). members_start known (members_of p tag)) (same-shapes p c.args.shapes.now c.requires))
     in
     ap (λ x. Some (place f.ty x)) start
-    ∙ sym (ap (λ o. step_place 4 p o (Member c.args.k)) ty ∙ ap (option_map (λ f. place f.ty (member_offset 4 p tag))) entry)
+    ∙ sym (ap (λ o. step_place p o (Member c.args.k)) ty ∙ ap (option_map (λ f. place f.ty (member_offset p tag))) entry)

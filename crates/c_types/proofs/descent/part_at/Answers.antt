@@ -1,6 +1,5 @@
 use Rattle.std.proofs.Common.{◌≡◌, ◌∙◌, ap, Some, slice_get, length, arith}
 use Rattle.c_types.specs.declared.parts.Ty.TheVariants.{Array}
-use Rattle.c_types.proofs.Alignment.{four_bytes}
 use Rattle.c_types.proofs.Numbered.{fields_few, element_known}
 use Rattle.c_types.proofs.PlaceLaws.{size-low}
 use Rattle.c_types.proofs.TableLemmas.{AreSmall-kept}
@@ -20,6 +19,6 @@ part_in_array-requires c =
     let u = c.in-Some-Array.element in
     let ty : slice_get p.types c.args.number ≡ Some (Array u c.in-Some-Array.count) = cc in
     let known = element_known p c.requires.built.numbered c.args.number u c.in-Some-Array.count ty in
-    let some = size-low 4 p four_bytes c.requires.built u known in
+    let some = size-low p c.requires.built u known in
     let size = ap (λ s. s.size) (c.shape_at.ensures ∙ c.requires.each u) in
     omega (arith, some, size)

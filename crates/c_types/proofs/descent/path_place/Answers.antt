@@ -12,9 +12,9 @@ loop-step-preserved c =
     let at = c.loop-step.at in
     let path = c.args.path.now in
     let i = c.loop-step.step-index in
-    let turn = path-turn 4 p at c.in-Some.next (get_or path i (Index 0)) (drop (i + 1) path) c.in-Some.ensures.value in
+    let turn = path-turn p at c.in-Some.next (get_or path i (Index 0)) (drop (i + 1) path) c.in-Some.ensures.value in
     let rest = drop_more path i (Index 0) c.loop-step-test.true in
     record {
-      value = turn ∙ (ap (λ rest. then_option (path_place 4 p at.ty rest) (shifted at.offset)) (sym rest) ∙ c.loop-step.invariant.value);
+      value = turn ∙ (ap (λ rest. then_option (path_place p at.ty rest) (shifted at.offset)) (sym rest) ∙ c.loop-step.invariant.value);
       inside = c.in-Some.ensures.inside;
     }

@@ -6,6 +6,6 @@ use Rattle.c_types.proofs.descent.path_place.Given as goal
 
 abbrev pub invariant-loop-step : goal.invariant-loop-step
 invariant-loop-step l = record {
-  value : then_option (path_place 4 l.parts l.at.ty (drop l.step-index l.path)) (shifted l.at.offset) ≡ path_place 4 l.parts l.number l.path;
-  inside : l.at.offset + size_of 4 l.parts l.at.ty ≤ greatest;
+  value : then_option (path_place l.parts l.at.ty (drop l.step-index l.path)) (shifted l.at.offset) ≡ path_place l.parts l.number l.path;
+  inside : l.at.offset + size_of l.parts l.at.ty ≤ greatest;
 }

@@ -9,7 +9,7 @@ returns-then-is_here c =
     let p = c.args.parts.now in
     let at = c.loop.at in
     let lt : c.loop.counter < length p.types = omega (arith, ap length c.as_slice-end.ensures) in
-    let here = descend-here 4 p (length p.types) c.loop.counter at.ty at.rest c.args.want lt (sym c.is_here.ensures ∙ c.if-is_here.true) in
+    let here = descend-here p (length p.types) c.loop.counter at.ty at.rest c.args.want lt (sym c.is_here.ensures ∙ c.if-is_here.true) in
     ap is_some (sym here) ∙ c.loop.invariant
 
 pub returns-in_default-part_at : goal.returns-in_default-part_at
@@ -17,7 +17,7 @@ returns-in_default-part_at c =
     let p = c.args.parts.now in
     let at = c.loop.at in
     let lt : c.loop.counter < length p.types = omega (arith, ap length c.as_slice-end.ensures) in
-    let on = descend-on 4 p (length p.types) c.loop.counter at.ty at.rest c.args.want lt None (sym c.is_here.ensures ∙ c.if-is_here.false) c.in_default-part_at.ensures in
+    let on = descend-on p (length p.types) c.loop.counter at.ty at.rest c.args.want lt None (sym c.is_here.ensures ∙ c.if-is_here.false) c.in_default-part_at.ensures in
     ap is_some (sym on) ∙ c.loop.invariant
 
 pub loop-preserved : goal.loop-preserved
@@ -26,6 +26,6 @@ loop-preserved c =
     let at = c.loop.at in
     let next = c.in-Some-part_at.next in
     let lt : c.loop.counter < length p.types = omega (arith, ap length c.as_slice-end.ensures) in
-    let on = descend-on 4 p (length p.types) c.loop.counter at.ty at.rest c.args.want lt (Some next) (sym c.is_here.ensures ∙ c.if-is_here.false) c.in-Some-part_at.ensures in
-    let below = descend 4 p (length p.types - (c.loop.counter + 1)) next.ty next.rest c.args.want in
+    let on = descend-on p (length p.types) c.loop.counter at.ty at.rest c.args.want lt (Some next) (sym c.is_here.ensures ∙ c.if-is_here.false) c.in-Some-part_at.ensures in
+    let below = descend p (length p.types - (c.loop.counter + 1)) next.ty next.rest c.args.want in
     sym (some-map next.step below) ∙ (ap is_some (sym on) ∙ c.loop.invariant)

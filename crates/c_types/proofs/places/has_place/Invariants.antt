@@ -5,4 +5,4 @@ use Rattle.c_types.proofs.places.has_place.Given as goal
 
 abbrev pub invariant-loop : goal.invariant-loop
 invariant-loop l =
-    is_some (descend 4 l.parts (length l.parts.types - l.counter) l.at.ty l.at.rest l.want) ≡ is_some (find_place 4 l.parts l.elem l.count l.offset l.want)
+    is_some (descend l.parts (length l.parts.types - l.counter) l.at.ty l.at.rest l.want) ≡ is_some (find_place l.parts l.elem l.count l.offset l.want)

@@ -7,8 +7,8 @@ use Rattle.c_types.proofs.rounds.all_shapes.Goals as goal
 pub returns-then-same_shapes-clause-value : goal.returns-then-same_shapes-clause-value
 returns-then-same_shapes-clause-value c =
     let p = c.args.parts.now in
-    let rounds = shape_rounds 4 p in
-    let step = λ (shapes : List Shape). map (round_shape 4 p shapes) p.types in
+    let rounds = shape_rounds p in
+    let step = λ (shapes : List Shape). map (round_shape p shapes) p.types in
     let same : rounds (suc c.loop.counter) ≡ rounds c.loop.counter =
     sym (ap step (c.deref.ensures.value ∙ c.loop.invariant.value))
     ∙ (sym c.in_ok-next.ensures.value

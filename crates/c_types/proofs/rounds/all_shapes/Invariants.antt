@@ -4,6 +4,6 @@ use Rattle.c_types.proofs.rounds.all_shapes.Given as goal
 
 abbrev pub invariant-loop : goal.invariant-loop
 invariant-loop l = record {
-  value : l.shapes.items ≡ shape_rounds 4 l.parts l.counter;
+  value : l.shapes.items ≡ shape_rounds l.parts l.counter;
   small : AreSmall (shape_at l.shapes.items);
 }

@@ -3,4 +3,4 @@ use Rattle.c_types.specs.Refusal.{IsTooBig}
 use Rattle.c_types.proofs.table.first_too_big.Given as goal
 
 abbrev pub invariant-loop-number : goal.invariant-loop-number
-invariant-loop-number l = (m : ℕ) → m < l.number → IsTooBig 4 l.parts m → ⊥
+invariant-loop-number l = (m : ℕ) → m < l.number → IsTooBig l.parts m → ⊥
