@@ -17,6 +17,7 @@ use Rattle.bm_code.specs.Run.{Ending, Returned, Trapped, Paused, Final, run_mach
 -- signature 0 has one parameter and a result, signature 1 has neither
 types : Parts
 types = record {
+  pointer = 4;
   types = IntTy Int ∷ [];
   structs = [];
   unions = [];

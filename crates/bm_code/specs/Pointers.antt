@@ -6,7 +6,6 @@ use Rattle.lu_spec.specs.Splice.{spliced}
 use Rattle.lu_base.specs.declared.trap.Trap.{Trap}
 use Rattle.lu_base.specs.declared.trap.Trap.TheVariants.{PtrRange, PtrOrder, BadPointer, UnionMember}
 use Rattle.c_types.specs.declared.parts.Parts.{Parts}
-use Rattle.c_types.specs.declared.parts.TheConstants.{POINTER_SIZE}
 use Rattle.c_types.specs.declared.parts.IntKind.TheVariants.{Int}
 use Rattle.c_types.specs.Descent.{find_place}
 use Rattle.bm_mem.specs.Content.{Content}
@@ -64,7 +63,7 @@ pointed Less rows p q = of_one_object rows p q (flag (nat_lt p q))
 -- a live object has a place of the type at the address
 abbrev pub is_place : Parts → ℕ → ℕ → Option Row → Bool
 is_place types t a None = false
-is_place types t a (Some r) = r.live && is_some (find_place POINTER_SIZE types r.elem r.count (a - r.addr) t)
+is_place types t a (Some r) = r.live && is_some (find_place types r.elem r.count (a - r.addr) t)
 
 abbrev pub checked : Parts → List Row → ℕ → ℕ → Result ℕ Trap
 checked types rows t a =

@@ -7,7 +7,6 @@ use Rattle.std.specs.FinMap as map
 use Rattle.lu_spec.specs.Then.{then_option}
 use Rattle.lu_base.specs.declared.message.Message.{Message}
 use Rattle.lu_base.specs.declared.trap.Trap.TheVariants.{BadCode, BadFree, Panic as Panics}
-use Rattle.c_types.specs.declared.parts.TheConstants.{POINTER_SIZE}
 use Rattle.c_types.specs.Layout.{size_of}
 use Rattle.bm_objects.specs.declared.row.Row.{Row}
 use Rattle.bm_objects.specs.Table.{reaches, killed, address_after}
@@ -38,7 +37,7 @@ address_limit = 0xF0000000
 -- so many new elements of a site's type, at the next address
 abbrev pub new_row : MachineCode → ℕ → ℕ → ℕ → ℕ → Row
 new_row code next site elem count =
-    record { addr = next; elem = elem; count = count; size = count * size_of POINTER_SIZE code.types elem; site = Some site; live = true }
+    record { addr = next; elem = elem; count = count; size = count * size_of code.types elem; site = Some site; live = true }
 
 -- the count is at least 1, the heap may have it, and the next address stays below its limit
 abbrev pub can_allocate : List Row → Row → Bool

@@ -1,7 +1,6 @@
 -- What the tests' code has.
 use Rattle.std.proofs.Common.{◌≡◌, ◌∙◌, ap, sym, subst, ℕ, zero, suc, ◌<◌, List, [], ◌∷◌, ◌++◌, length, Some, arith}
 use Rattle.std.specs.Prelude.{slice_get}
-use Rattle.c_types.specs.declared.parts.TheConstants.{POINTER_SIZE}
 use Rattle.c_types.specs.Layout.{size_of}
 use Rattle.bm_code.specs.declared.code.MachineCode.{MachineCode}
 use Rattle.bm_code.specs.declared.code.MachineGlobal.{MachineGlobal}
@@ -36,9 +35,9 @@ in_more P (y ∷ xs) a h p zero x at = h 0 x at
 in_more P (y ∷ xs) a h p (suc k) x at = in_more P xs a (λ k x at. h (suc k) x at) p k x at
 
 -- a global of eight ints
-pub good_global : (code : MachineCode) (g : MachineGlobal) → 0 < length code.names → length code.types.types ≡ 2 → g.name ≡ 0 → g.ty ≡ 1 → size_of POINTER_SIZE code.types 1 ≡ 32 → length g.bytes ≡ 32 → IsAcceptedGlobal code g
+pub good_global : (code : MachineCode) (g : MachineGlobal) → 0 < length code.names → length code.types.types ≡ 2 → g.name ≡ 0 → g.ty ≡ 1 → size_of code.types 1 ≡ 32 → length g.bytes ≡ 32 → IsAcceptedGlobal code g
 good_global code g named types name ty size long = record {
   name = omega (arith, name, named);
   known = omega (arith, types, ty);
-  whole = long ∙ (sym size ∙ ap (size_of POINTER_SIZE code.types) (sym ty));
+  whole = long ∙ (sym size ∙ ap (size_of code.types) (sym ty));
 }

@@ -3,7 +3,6 @@ use Rattle.std.specs.Prelude.{◌≡◌, ℕ, ◌+◌, ◌<◌, ◌≤◌, List,
 use Rattle.c_types.specs.declared.parts.FieldDef.{FieldDef}
 use Rattle.c_types.specs.declared.parts.Signature.{Signature}
 use Rattle.c_types.specs.declared.parts.TagDef.{TagDef}
-use Rattle.c_types.specs.declared.parts.TheConstants.{POINTER_SIZE}
 use Rattle.c_types.specs.Layout.{size_of}
 use Rattle.bm_code.specs.declared.code.MachineCode.{MachineCode}
 use Rattle.bm_code.specs.declared.code.MachineFunction.{MachineFunction}
@@ -28,7 +27,7 @@ pub record IsAcceptedFunction (code : MachineCode) (d : MachineFunction) : Type 
 pub record IsAcceptedGlobal (code : MachineCode) (g : MachineGlobal) : Type 0 where
   pub name : g.name < length code.names
   pub known : g.ty < length code.types.types
-  pub whole : length g.bytes ≡ size_of POINTER_SIZE code.types g.ty
+  pub whole : length g.bytes ≡ size_of code.types g.ty
 
 pub record IsAcceptedSite (code : MachineCode) (s : MachineSite) : Type 0 where
   pub function : s.function < length code.functions

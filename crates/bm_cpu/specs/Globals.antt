@@ -2,7 +2,6 @@
 use Rattle.std.specs.Prelude.{ℕ, true, List, [], ◌∷◌, ◌++◌, Option, Some, None, slice_get}
 use Rattle.std.specs.FinMap as map
 use Rattle.c_types.specs.declared.parts.Parts.{Parts}
-use Rattle.c_types.specs.declared.parts.TheConstants.{POINTER_SIZE}
 use Rattle.c_types.specs.declared.parts.Ty.{Ty}
 use Rattle.c_types.specs.declared.parts.Ty.TheVariants.{Array}
 use Rattle.c_types.specs.Layout.{size_of}
@@ -37,7 +36,7 @@ global_row types next g = record {
   addr = next;
   elem = (elements_of types g.ty).0;
   count = (elements_of types g.ty).1;
-  size = size_of POINTER_SIZE types g.ty;
+  size = size_of types g.ty;
   site = None;
   live = true;
 }

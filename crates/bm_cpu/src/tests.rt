@@ -2,7 +2,6 @@
 // first object of the heap at 0x1060.
 ghost use Rattle.std.specs.Prelude.{◌≡◌, ◌+◌, [], length, IfOk, OnOk};
 ghost use Rattle.std.specs.Bool.{OnTrue};
-ghost use Rattle.c_types.specs.declared.parts.TheConstants.{POINTER_SIZE};
 ghost use Rattle.c_types.specs.Layout.{size_of};
 ghost use Rattle.bm_code.specs.declared.code.MachineCode.{MachineCode as CodeValue};
 ghost use Rattle.bm_cpu.specs.Accepted.{IsAccepted, IsAcceptedFunction, HasParameters};
@@ -286,6 +285,7 @@ fn int_types(alloc: Global) -> Result<TypeTable, Fail>
     ensures unions { IfOk result (λ types. types.unions ≡ []) }
 {
     let parts = Parts {
+        pointer: 4,
         types: Sequence::from_vec(vec![in alloc; Ty::Int(IntKind::Int), Ty::Array(0, 8)]?),
         structs: Sequence::from_vec(Vec::new(alloc)),
         unions: Sequence::from_vec(Vec::new(alloc)),
@@ -367,7 +367,7 @@ fn functions(alloc: Global, types: &TypeTable, main: &[Instr]) -> Result<Vec<Mac
 fn global(alloc: Global, types: &TypeTable) -> Result<MachineGlobal, Fail>
     ensures name { IfOk result (λ g. g.name ≡ 0) }
     ensures of_ints { IfOk result (λ g. g.ty ≡ 1) }
-    ensures size { IfOk result (λ g. size_of POINTER_SIZE types.now 1 ≡ 32) }
+    ensures size { IfOk result (λ g. size_of types.now 1 ≡ 32) }
     ensures bytes { IfOk result (λ g. length g.bytes ≡ 32) }
 {
     if types.size_of(1) != 32 {

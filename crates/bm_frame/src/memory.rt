@@ -2,7 +2,6 @@
 
 ghost use Rattle.std.specs.Prelude.{◌≡◌, ◌+◌, ◌<◌, ◌≤◌, ◌-◌, ◌^◌, [], ◌∷◌, ◌++◌, ℕ, List, length, replicate, IfSome, is_some, slice_get};
 ghost use Rattle.std.specs.Option.{option_map};
-ghost use Rattle.c_types.specs.declared.parts.TheConstants.{POINTER_SIZE};
 ghost use Rattle.c_types.specs.declared.parts.Parts.{Parts};
 ghost use Rattle.c_types.specs.Descent.{find_place};
 ghost use Rattle.lu_spec.specs.Splice.{piece_at};
@@ -134,7 +133,7 @@ fn read_union<B: Bytes>(
 /// Whether a place of the type is at an offset of an object, outside unions.
 fn fits(types: &TypeTable, row: Row, offset: u32, want: u32) -> bool
     requires { row.elem < length types.now.types }
-    ensures { result ≡ is_some (find_place POINTER_SIZE types.now row.elem row.count offset want) }
+    ensures { result ≡ is_some (find_place types.now row.elem row.count offset want) }
 {
     let _parts = types.parts();
     types.fits(row.elem, row.count, offset, want)

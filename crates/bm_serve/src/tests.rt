@@ -22,6 +22,7 @@ fn int_types(alloc: Global) -> Result<TypeTable, Fail>
     ensures { IfOk result (λ types. 0 < length types.types) }
 {
     let parts = Parts {
+        pointer: 4,
         types: Sequence::from_vec(vec![in alloc; Ty::Int(IntKind::Int)]?),
         structs: Sequence::from_vec(Vec::new(alloc)),
         unions: Sequence::from_vec(Vec::new(alloc)),

@@ -2,7 +2,6 @@
 
 ghost use Rattle.std.specs.Prelude.{◌≡◌, ◌+◌, ◌<◌, ◌≤◌, ◌^◌, [], ◌∷◌, ◌++◌, ℕ, List, true, false, length, replicate, All, Any, IsSome, None, IfSome, MatchOption, MatchResult, OnOk, OnErr};
 ghost use Rattle.std.specs.FinMap.{get, insert, remove};
-ghost use Rattle.c_types.specs.declared.parts.TheConstants.{POINTER_SIZE};
 ghost use Rattle.c_types.specs.declared.parts.Parts.{Parts};
 ghost use Rattle.c_types.specs.Layout.{size_of};
 ghost use Rattle.bm_mem.specs.Content.{IsClear};
@@ -95,7 +94,7 @@ fn plan_object(
 /// The bytes of a type of the program.
 fn size_of(code: &MachineCode, elem: u32) -> u32
     requires { elem < length code.now.types.types }
-    ensures is { result ≡ size_of POINTER_SIZE code.now.types elem }
+    ensures is { result ≡ size_of code.now.types elem }
     ensures some { 0 < result }
 {
     let _parts = code.types.parts();

@@ -13,6 +13,7 @@ fn int_program(alloc: Global) -> Result<MachineCode, Fail>
     ensures { IfOk result (λ code. 0 < length code.types.types) }
 {
     let parts = Parts {
+        pointer: 4,
         types: Sequence::from_vec(vec![in alloc; Ty::Int(IntKind::Int)]?),
         structs: Sequence::from_vec(Vec::new(alloc)),
         unions: Sequence::from_vec(Vec::new(alloc)),

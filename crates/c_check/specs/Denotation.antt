@@ -1,6 +1,5 @@
 -- What a text denotes: a program, or the first declaration that breaks a rule.
 use Rattle.std.specs.Prelude.{◌≡◌, ⊤, ℕ, Bool, true, ◌&&◌, IsTrue, List, Result, Ok, Err}
-use Rattle.c_types.specs.declared.parts.TheConstants.{POINTER_SIZE}
 use Rattle.c_types.specs.declared.parts.Parts.{Parts}
 use Rattle.c_types.specs.Refusal.{IsBuilt}
 use Rattle.c_ast.specs.Trees.{Declaration}
@@ -30,7 +29,7 @@ has_text p text = has_common p && has_declarations (scope_of p text) text
 -- the table of the types of a text, which can be built and has all that it is asked for
 pub record IsTableOf (text : List Declaration) (p : Parts) : Type 0 where
   pub is : p ≡ types_of text
-  pub built : IsBuilt POINTER_SIZE p
+  pub built : IsBuilt p
   pub has : IsTrue (has_text p text)
 
 -- a text that breaks no rule denotes this program

@@ -1,6 +1,5 @@
 -- What stands after the declarations of a text so far.
 use Rattle.std.specs.Prelude.{ℕ, ◌+◌, true, false, List, [], ◌∷◌, ◌++◌, length, slice_set}
-use Rattle.c_types.specs.declared.parts.TheConstants.{POINTER_SIZE}
 use Rattle.c_types.specs.declared.parts.Signature.{Signature}
 use Rattle.c_types.specs.Layout.{size_of}
 use Rattle.src_tree.specs.declared.program.Init.{Zero}
@@ -31,7 +30,7 @@ start scope =
     record {
       scope = scope;
       globals = start_globals (message_type scope.types);
-      bytes = size_of POINTER_SIZE scope.types (message_type scope.types) + size_of POINTER_SIZE scope.types (message_type scope.types);
+      bytes = size_of scope.types (message_type scope.types) + size_of scope.types (message_type scope.types);
       functions = [];
       defined = [];
       sites = [];

@@ -3,7 +3,6 @@ use Rattle.std.specs.Prelude.{ℕ, ◌+◌, nat_eq, Bool, false, ◌&&◌, ◌||
 use Rattle.lu_spec.specs.Then.{then_option, then_do}
 use Rattle.c_types.specs.declared.parts.Ty.{Ty}
 use Rattle.c_types.specs.declared.parts.Ty.TheVariants as T
-use Rattle.c_types.specs.declared.parts.TheConstants.{POINTER_SIZE}
 use Rattle.c_types.specs.declared.parts.Parts.{Parts}
 use Rattle.c_types.specs.Layout.{shape_of}
 use Rattle.c_ast.specs.Trees.{Text, Expression, Num, Char, Var, Paren, Size, At, Part, Prefix, Convert, Op, Cond, Object, Initializer, Single, Bytes, Braces, Initializers, NoMore, Next}
@@ -127,7 +126,7 @@ unfit_if_any scope r None = r
 unfit_if_any scope r (Some i) = unfit scope r i
 
 unfoldable pub declared_global : Parts → ObjectType → Init → DeclaredGlobal
-declared_global p ty init = record { ty = object_number p ty; size = object_size (shape_of POINTER_SIZE p) ty; init = init }
+declared_global p ty init = record { ty = object_number p ty; size = object_size (shape_of p) ty; init = init }
 
 unfoldable pub typed_global : Scope → List (Option ℕ) → Checked ObjectType → Option Initializer → Checked DeclaredGlobal
 typed_global scope functions (Err r) i = Err (unfit_if_any scope r i)

@@ -2,7 +2,6 @@
 use Rattle.std.specs.Prelude.{ℕ, ◌*◌, nat_lt, not, Bool, true, false, List, [], ◌∷◌, ◌++◌, length, Option, Some, None, is_some, Ok, Err, if◌then◌else◌}
 use Rattle.std.specs.Option.{option_map_or}
 use Rattle.lu_spec.specs.Then.{then_do}
-use Rattle.c_types.specs.declared.parts.TheConstants.{POINTER_SIZE}
 use Rattle.c_types.specs.declared.parts.FieldDef.{FieldDef}
 use Rattle.c_types.specs.declared.parts.Parts.{Parts}
 use Rattle.c_types.specs.declared.shape.Shape.{Shape}
@@ -35,7 +34,7 @@ small known ty = then_do ty (λ t. if nat_lt greatest (object_size known t) then
 
 -- the type of a field or global
 unfoldable pub small_type : Scope → Object → Checked ObjectType
-small_type scope o = small (shape_of POINTER_SIZE scope.types) (object_type scope o)
+small_type scope o = small (shape_of scope.types) (object_type scope o)
 
 -- ---- fields
 
@@ -95,4 +94,4 @@ judged_fields known kind os fs =
 -- the fields of a struct or union, or the rules that they break
 unfoldable pub record_fields : Scope → TagKind → List Object → Checked (List FieldDef)
 record_fields scope kind os =
-    judged_fields (shape_of POINTER_SIZE scope.types) kind os (fields_after scope (Ok []) os)
+    judged_fields (shape_of scope.types) kind os (fields_after scope (Ok []) os)

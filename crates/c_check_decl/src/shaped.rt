@@ -1,7 +1,6 @@
 // What tells the sizes and alignments of types.
 
 ghost use Rattle.std.specs.Prelude.{◌≡◌};
-ghost use Rattle.c_types.specs.declared.parts.TheConstants.{POINTER_SIZE};
 ghost use Rattle.c_types.specs.Layout.{Shapes, shape_of};
 
 use c_types::{TyId, TypeTable};
@@ -20,7 +19,7 @@ pub trait Shaped {
 }
 
 impl Shaped for TypeTable {
-    ghost shapes = { shape_of POINTER_SIZE };
+    ghost shapes = { shape_of };
 
     fn bytes_of(&self, number: TyId) -> u32 {
         self.size_of(number)

@@ -9,8 +9,8 @@ use Rattle.c_types.specs.Refusal.{IsBuilt}
 use Rattle.c_types.proofs.Repeats.{repeated-found, repeated-duplicate}
 
 -- a type isn't among those before it
-pub fresh : (w : ℕ) (p : Parts) → IsBuilt w p → (n : ℕ) (d : Ty) → n < length p.types → list_any (eq-value.it (get_or p.types n d)) (take n p.types) ≡ false
-fresh w p built n d h = by (list_any (eq-value.it (get_or p.types n d)) (take n p.types)) refl
+pub fresh : (p : Parts) → IsBuilt p → (n : ℕ) (d : Ty) → n < length p.types → list_any (eq-value.it (get_or p.types n d)) (take n p.types) ≡ false
+fresh p built n d h = by (list_any (eq-value.it (get_or p.types n d)) (take n p.types)) refl
   where
     by : (b : Bool) → list_any (eq-value.it (get_or p.types n d)) (take n p.types) ≡ b → list_any (eq-value.it (get_or p.types n d)) (take n p.types) ≡ false
     by false e = e

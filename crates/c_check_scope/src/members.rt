@@ -2,7 +2,6 @@
 
 ghost use Rattle.std.specs.Prelude.{◌≡◌, ◌<◌, ◌^◌, length, nat_eq, position};
 ghost use Rattle.c_types.specs.Refusal.{IsBuilt};
-ghost use Rattle.c_types.specs.declared.parts.TheConstants.{POINTER_SIZE};
 ghost use Rattle.c_check_scope.specs.Members.{part_at, part_named, part_of};
 
 use c_types::{FieldDef, Parts, Ty, TyId};
@@ -51,7 +50,7 @@ fn part_named(in_union: bool, fields: &[FieldDef], name: usize) -> Option<Part>
 /// no such field.
 #[tactic(auto, unfolding(crate::specs::Members::part_of))]
 pub fn part_of(parts: &Parts, ty: Ty, name: usize) -> Option<Part>
-    requires { IsBuilt POINTER_SIZE parts.now }
+    requires { IsBuilt parts.now }
     ensures { result ≡ part_of parts.now ty name }
 {
     match ty {

@@ -2,7 +2,6 @@
 
 ghost use Rattle.std.specs.Prelude.{◌≡◌, IfOk};
 ghost use Rattle.c_types.specs.Refusal.{IsBuilt};
-ghost use Rattle.c_types.specs.declared.parts.TheConstants.{POINTER_SIZE};
 ghost use Rattle.c_check_scope.specs.Numbers.{number_of};
 
 use c_types::{Parts, Ty, TyId, TypeTable};
@@ -20,18 +19,17 @@ pub struct Types {
 impl Model for Types {
     ghost use Rattle.std.specs.Prelude.{◌≡◌};
     ghost use Rattle.c_types.specs.declared.parts.Parts.{Parts};
-    ghost use Rattle.c_types.specs.declared.parts.TheConstants.{POINTER_SIZE};
     ghost use Rattle.c_types.specs.Refusal.{IsBuilt};
 
     ghost Value = { Parts };
 
     ghost view = { λ t. t.parts };
 
-    ghost invariant = { λ t. IsBuilt POINTER_SIZE t.parts × (t.numbers.keys ≡ t.parts.types) };
+    ghost invariant = { λ t. IsBuilt t.parts × (t.numbers.keys ≡ t.parts.types) };
 }
 
 fn numbered(alloc: Global, parts: &Parts) -> Result<IndexSet<Ty>, AllocError>
-    requires { IsBuilt POINTER_SIZE parts.now }
+    requires { IsBuilt parts.now }
     ensures { IfOk result (λ numbers. numbers.keys ≡ parts.now.types) }
 {
     let mut numbers = IndexSet::new(alloc);
@@ -53,7 +51,7 @@ impl Types {
 
     pub fn parts(&self) -> &Parts
         ensures value { result.now ≡ self.now }
-        ensures built { IsBuilt POINTER_SIZE self.now }
+        ensures built { IsBuilt self.now }
     {
         &self.parts
     }

@@ -6,12 +6,12 @@ use Rattle.c_types.specs.declared.errors.BuildError.TheVariants.{Duplicate, Empt
 use Rattle.c_types.specs.Numbering.{is_well_numbered}
 use Rattle.c_types.specs.Refusal.{IsBuilt, Refuses}
 
-pub ill_numbered : (w : ℕ) (p : Parts) → is_well_numbered p ≡ false → IsBuilt w p → ⊥
-ill_numbered w p h b = let n = b.numbered in absurd (cc)
+pub ill_numbered : (p : Parts) → is_well_numbered p ≡ false → IsBuilt p → ⊥
+ill_numbered p h b = let n = b.numbered in absurd (cc)
 
-pub refused : (w : ℕ) (p : Parts) (e : BuildError) → Refuses w p e → IsBuilt w p → e ≡ Memory
-refused w p (Duplicate n) r b = absurd (b.distinct n r.here)
-refused w p (Empty n) r b = absurd (b.full n r.1.here)
-refused w p (Cycle t) r b = absurd (b.acyclic t r.2.here)
-refused w p (TooBig t) r b = absurd (b.small t r.3.here)
-refused w p Memory r b = refl
+pub refused : (p : Parts) (e : BuildError) → Refuses p e → IsBuilt p → e ≡ Memory
+refused p (Duplicate n) r b = absurd (b.distinct n r.here)
+refused p (Empty n) r b = absurd (b.full n r.1.here)
+refused p (Cycle t) r b = absurd (b.acyclic t r.2.here)
+refused p (TooBig t) r b = absurd (b.small t r.3.here)
+refused p Memory r b = refl

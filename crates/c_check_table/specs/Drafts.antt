@@ -1,7 +1,6 @@
 -- A table of types that is being made: its types, each once, with their sizes and alignments.
 use Rattle.std.specs.Prelude.{ℕ, zero, suc, List, [], ◌∷◌, ◌++◌, if◌then◌else◌}
 use Rattle.std.specs.List.{list_any, position_or_len}
-use Rattle.c_types.specs.declared.parts.TheConstants.{POINTER_SIZE}
 use Rattle.c_types.specs.declared.parts.Ty.{Ty}
 use Rattle.c_types.specs.declared.parts.Ty.TheVariants as T
 use Rattle.c_types.specs.declared.parts.Parts.{Parts}
@@ -24,7 +23,7 @@ with_type d ty s =
     if list_any (same_type ty) d.types then d else record d { types = d.types ++ (ty ∷ []); shapes = d.shapes ++ (s ∷ []) }
 
 abbrev pub pointer_shape : Shape
-pointer_shape = shape POINTER_SIZE POINTER_SIZE
+pointer_shape = shape 4 4
 
 -- so many pointer types over the type of a number
 abbrev pub with_pointers : Draft → ℕ → ℕ → Draft
@@ -41,4 +40,4 @@ shapes d = shape_at d.shapes
 
 -- the table
 abbrev pub parts_of : Draft → Parts
-parts_of d = record { types = d.types; structs = d.structs; unions = d.unions; signatures = d.signatures }
+parts_of d = record { pointer = 4; types = d.types; structs = d.structs; unions = d.unions; signatures = d.signatures }

@@ -3,7 +3,6 @@ use Rattle.std.specs.Prelude.{◌⊎◌, ℕ, zero, suc, ◌+◌, List, [], ◌�
 use Rattle.c_types.specs.declared.parts.IntKind.{IntKind}
 use Rattle.c_types.specs.declared.parts.IntKind.TheVariants.{Char, UChar, Short, UShort, Int, UInt, LongLong, ULongLong}
 use Rattle.c_types.specs.declared.parts.Ty.TheVariants as T
-use Rattle.c_types.specs.declared.parts.TheConstants.{POINTER_SIZE}
 use Rattle.c_types.specs.declared.parts.TagDef.{TagDef}
 use Rattle.c_types.specs.declared.parts.Parts.{Parts}
 use Rattle.c_types.specs.declared.shape.Shape.{Shape}
@@ -61,6 +60,7 @@ all_unknown tag (suc n) = all_unknown tag n ++ (unknown (tag + n) ∷ [])
 unfoldable pub base_parts : Outline → Parts
 base_parts o =
     record {
+      pointer = 4;
       types = (base o).types;
       structs = all_unknown 0 o.structs;
       unions = all_unknown o.structs o.unions;
@@ -85,4 +85,4 @@ types_of text = parts_of (draft_of (outline text) text)
 
 -- the types of a text, or what each table begins with, are no table
 abbrev pub IsNoTable : List Declaration → Type 0
-IsNoTable text = (IsBuilt POINTER_SIZE (types_of text) → ⊥) ⊎ (IsBuilt POINTER_SIZE (base_parts (outline text)) → ⊥)
+IsNoTable text = (IsBuilt (types_of text) → ⊥) ⊎ (IsBuilt (base_parts (outline text)) → ⊥)

@@ -6,15 +6,15 @@ ghost use Rattle.c_check_table.specs.Drafts as spec;
 use crate::types::TypeList;
 use c_check_decl::shaped::Shaped;
 use c_check_scope::numbers::as_number;
-use c_types::{POINTER_SIZE, Parts, Sequence, Shape, Signature, TagDef, Ty, TyId};
+use c_types::{Parts, Sequence, Shape, Signature, TagDef, Ty, TyId};
 use sqlite_items::Items;
 use std::alloc::{AllocError, Global};
 use std::mem::replace;
 
 /// The size and the alignment of pointers.
 pub const POINTER: Shape = Shape {
-    size: POINTER_SIZE,
-    align: POINTER_SIZE,
+    size: 4,
+    align: 4,
 };
 
 /// A table of types that is being made.
@@ -118,6 +118,7 @@ pub fn parts_of(alloc: Global, draft: Draft) -> Result<Parts, AllocError>
 {
     let types = draft.types.copy(alloc)?;
     Ok(Parts {
+        pointer: 4,
         types,
         structs: draft.structs,
         unions: draft.unions,

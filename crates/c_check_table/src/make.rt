@@ -2,7 +2,6 @@
 
 ghost use Rattle.std.specs.Prelude.{◌≡◌, IfOk, OnOk, MatchOption};
 ghost use Rattle.c_ast.specs.Trees.{declarations};
-ghost use Rattle.c_types.specs.declared.parts.TheConstants.{POINTER_SIZE};
 ghost use Rattle.c_types.specs.Refusal.{IsBuilt};
 ghost use Rattle.c_check_table.specs.Tables as spec;
 
@@ -21,7 +20,7 @@ use std::alloc::{AllocError, Global};
 /// The table of these parts; none where they are no table.
 #[tactic(auto, using(crate::proofs::Refused::ill_numbered, crate::proofs::Refused::refused))]
 fn built(alloc: Global, parts: Parts) -> Result<Option<TypeTable>, AllocError>
-    ensures { IfOk result (λ table. MatchOption table (IsBuilt POINTER_SIZE parts → ⊥) (λ table. table ≡ parts)) }
+    ensures { IfOk result (λ table. MatchOption table (IsBuilt parts → ⊥) (λ table. table ≡ parts)) }
 {
     if !well_numbered(&parts) {
         return Ok(None);
@@ -45,7 +44,7 @@ fn add_text(draft: &mut Draft, alloc: Global, scope: Scope, text: &[Decl]) -> Re
 /// The scope in which types are looked up; none where there is no table that has only what each begins with.
 fn base_scope(alloc: Global, draft: &Draft, outline: Outline) -> Result<Option<Scope>, AllocError>
     requires { draft.now ≡ spec.base outline }
-    ensures { IfOk result (λ scope. MatchOption scope (IsBuilt POINTER_SIZE (spec.base_parts outline) → ⊥) (λ scope. scope ≡ spec.base_scope outline)) }
+    ensures { IfOk result (λ scope. MatchOption scope (IsBuilt (spec.base_parts outline) → ⊥) (λ scope. scope ≡ spec.base_scope outline)) }
 {
     let parts = base_parts(alloc, draft, &outline)?;
     match built(alloc, parts)? {

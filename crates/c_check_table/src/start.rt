@@ -89,6 +89,7 @@ pub fn base_parts(alloc: Global, draft: &Draft, outline: &Outline) -> Result<Par
     ensures { IfOk result (λ parts. parts ≡ spec.base_parts outline.now) }
 {
     Ok(Parts {
+        pointer: 4,
         types: draft.types.copy(alloc)?,
         structs: all_unknown(alloc, 0, outline.structs)?,
         unions: all_unknown(alloc, outline.structs, outline.unions)?,

@@ -30,6 +30,7 @@ fn parts(alloc: Global) -> Result<Parts, AllocError> {
         params: Sequence::from_vec(Vec::new(alloc)),
     })?;
     Ok(Parts {
+        pointer: 4,
         types: Sequence::from_vec(Vec::from_slice(alloc, types.as_slice())?),
         structs: Sequence::from_vec(structs),
         unions: Sequence::from_vec(Vec::new(alloc)),

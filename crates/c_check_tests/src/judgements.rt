@@ -21,6 +21,7 @@ fn parts(alloc: Global) -> Result<Parts, AllocError> {
     let types = vec![in alloc; INT, Ty::Struct(0), Ty::Pointer(0), Ty::Pointer(1)]?;
     let signatures: Vec<Signature> = Vec::new(alloc);
     Ok(Parts {
+        pointer: 4,
         types: Sequence::from_vec(types),
         structs: Sequence::from_vec(structs),
         unions: Sequence::from_vec(Vec::new(alloc)),

@@ -7,6 +7,7 @@ use Rattle.lu_image.specs.Correspondence.{corresponds}
 
 abbrev table : Parts
 table = record {
+  pointer = 4;
   types =
       T.Int K.UChar
       ∷ T.Int K.LongLong

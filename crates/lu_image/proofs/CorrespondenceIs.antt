@@ -107,7 +107,7 @@ only : (u v : ℕ) → Contains (u ∷ []) v → v ≡ u
 only u v (zero, w, c) = sym c
 only u v (suc k, w, c) = absurd (omega (arith, w))
 
-module _ (w : ℕ) (p : Parts) (built : IsBuilt w p) where
+module _ (p : Parts) (built : IsBuilt p) where
   edge_at : (x v : ℕ) (o : Option Ty) → slice_get p.types x ≡ o → Contains (pointed_by p x) v → Contains (pointed_in o) v
   edge_at x v o e c = subst (λ o. Contains (pointed_in o) v) e c
 

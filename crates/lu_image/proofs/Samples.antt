@@ -45,6 +45,7 @@ message = record { tag = 0; fields = field 1 0 ∷ field 2 0 ∷ field 3 1 ∷ [
 -- the types are int, int[6], struct message, the second struct, a pointer to that, and long long
 abbrev pub parts : List TagDef → List TagDef → Parts
 parts structs unions = record {
+  pointer = 4;
   types = T.Int K.Int ∷ T.Array 0 6 ∷ T.Struct 0 ∷ T.Struct 1 ∷ T.Pointer 3 ∷ T.Int K.LongLong ∷ [];
   structs = message ∷ structs;
   unions = unions;

@@ -19,7 +19,7 @@ pub if-ok : {A E : Type 0} (r : Result A E) (P Q : A → Type 0) → ((a : A) �
 if-ok (Ok a) P Q so h = so a h
 if-ok (Err e) P Q so h = tt
 
-module _ (w : ℕ) (p : Parts) (built : IsBuilt w p) where
+module _ (p : Parts) (built : IsBuilt p) where
   pub structs-few : length p.structs < 2 ^ 32
   structs-few =
       let h : is_countable p.structs ≡ true = and_left (is_countable p.structs) _ (and_right (is_countable p.types) _ (all_countable p built.numbered)) in

@@ -59,6 +59,7 @@ fn parts(
     unions: &[&[u32]],
 ) -> Result<Parts, AllocError> {
     Ok(Parts {
+        pointer: 4,
         types: Sequence::from_vec(Vec::from_slice(alloc, types)?),
         structs: tags(alloc, 0, structs)?,
         unions: tags(alloc, 100, unions)?,
@@ -261,6 +262,7 @@ fn tagged(alloc: Global, struct_tags: &[u32], union_tags: &[u32]) -> Result<Part
         unions.push(tag(alloc, *number, &[0])?)?;
     }
     Ok(Parts {
+        pointer: 4,
         types: Sequence::from_vec(Vec::from_slice(alloc, &[INT])?),
         structs: Sequence::from_vec(structs),
         unions: Sequence::from_vec(unions),

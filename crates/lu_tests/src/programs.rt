@@ -10,6 +10,7 @@ use std::test::Fail;
 
 fn types(alloc: Global) -> Result<TypeTable, Fail> {
     let parts = Parts {
+        pointer: 4,
         types: Sequence::from_vec(vec![in alloc; Ty::Int(IntKind::Int)]?),
         structs: Sequence::from_vec(Vec::new(alloc)),
         unions: Sequence::from_vec(Vec::new(alloc)),

@@ -48,10 +48,10 @@ map-replicate : (f : ℕ → Value) (n t : ℕ) → replicate n (f t) ≡ map f 
 map-replicate f zero t = refl
 map-replicate f (suc n) t = ap (λ vs. f t ∷ vs) (map-replicate f n t)
 
-module _ (w : ℕ) (p : Parts) (built : IsBuilt w p) (t : ℕ) where
+module _ (p : Parts) (built : IsBuilt p) (t : ℕ) where
   pub zero_of-is : (ty : Ty) → slice_get p.types t ≡ Some ty → zero_of p t ≡ zero_step p (zero_of p) ty
   zero_of-is ty e =
-      by_type-is p (zero_step p) Null (zero_step-local p) t (settled w p built t (slice_get_within p.types t ty e)) ∙ ap (at_type (zero_step p (zero_of p)) Null) e
+      by_type-is p (zero_step p) Null (zero_step-local p) t (settled p built t (slice_get_within p.types t ty e)) ∙ ap (at_type (zero_step p (zero_of p)) Null) e
 
   pub zero_of-none : slice_get p.types t ≡ None → Null ≡ zero_of p t
   zero_of-none e = by_length (length p.types)
@@ -211,10 +211,10 @@ get-replicate zero t k u e = cc
 get-replicate (suc n) t zero u e = cc
 get-replicate (suc n) t (suc k) u e = get-replicate n t k u e
 
-module _ (w : ℕ) (p : Parts) (built : IsBuilt w p) (t : ℕ) where
+module _ (p : Parts) (built : IsBuilt p) (t : ℕ) where
   falls : (ty : Ty) (u : ℕ) → slice_get p.types t ≡ Some ty → Contains (held_in p (Some ty)) u → depth p u < depth p t
   falls ty u e c =
-      depth-falls p t u (settled w p built t (slice_get_within p.types t ty e)) (subst (λ o. Contains (held_in p o) u) (sym e) c)
+      depth-falls p t u (settled p built t (slice_get_within p.types t ty e)) (subst (λ o. Contains (held_in p o) u) (sym e) c)
 
   -- the types of elements and fields, and of members, are less deep
   pub item-falls : (k u : ℕ) → slice_get (item_types p t) k ≡ Some u → depth p u < depth p t
@@ -238,7 +238,7 @@ module _ (w : ℕ) (p : Parts) (built : IsBuilt w p) (t : ℕ) where
   member-falls u m e h = falls (T.Union u) m.ty e (field_in (members_of p u) 0 m h)
 
   pub zero_union : (u : ℕ) (m : FieldDef) (v : Value) → slice_get p.types t ≡ Some (T.Union u) → slice_get (members_of p u) 0 ≡ Some m → v ≡ zero_of p m.ty → Union 0 v ≡ zero_of p t
-  zero_union u m v e h k = by_members (members_of p u) h ∙ sym (zero_of-is w p built t (T.Union u) e)
+  zero_union u m v e h k = by_members (members_of p u) h ∙ sym (zero_of-is p built t (T.Union u) e)
     where
       by_members : (ms : List FieldDef) → slice_get ms 0 ≡ Some m → Union 0 v ≡ first_member (zero_of p) ms
       by_members [] h = cc

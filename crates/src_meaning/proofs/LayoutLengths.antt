@@ -17,7 +17,6 @@ use Rattle.c_types.specs.Chain.{field_types, held_by, held_in, is_settled}
 use Rattle.c_types.specs.Recursion.{by_fuel, at_type, IsLocal}
 use Rattle.c_types.specs.Refusal.{IsBuilt}
 use Rattle.c_types.specs.Layout.{Shapes, int_size, shape_of, size_of, shape_step, field_end, fields_end, greatest_align, greatest_size, members_start, union_align, union_shape, struct_shape}
-use Rattle.c_types.proofs.Alignment.{IsAlignment}
 use Rattle.c_types.proofs.Capped.{next_multiple-above}
 use Rattle.c_types.proofs.Shapes.{greatest_align-low}
 use Rattle.c_types.proofs.FieldLaws.{size-greatest}
@@ -72,14 +71,14 @@ union_local known f g ms same (V.Union k body) = ap (λ b. little_endian 4 k ++ 
     by_member None e = refl
     by_member (Some d) e = ap (λ h. h body ++ zeros ((union_shape known ms).size - (members_start known ms + (known d.ty).size))) (same d.ty (field_in ms k d e))
 
-bytes_step-local : (w : ℕ) (p : Parts) (a : Addresses) → IsLocal p (bytes_step w p a)
-bytes_step-local w p a f g (Int k) same = refl
-bytes_step-local w p a f g (Pointer t) same = refl
-bytes_step-local w p a f g VoidPointer same = refl
-bytes_step-local w p a f g (Function h) same = refl
-bytes_step-local w p a f g (Struct s) same = λ i v. fields_local (shape_of w p) f g (struct_shape (shape_of w p) (fields_of p s)).size (fields_of p s) same (parts_in (out-Value v)) 0 i
-bytes_step-local w p a f g (Union u) same = λ i v. union_local (shape_of w p) f g (members_of p u) same (out-Value v) i
-bytes_step-local w p a f g (Array t n) same = λ i v. items_bytes (same t (0, omega arith, refl) i) (parts_in (out-Value v))
+bytes_step-local : (p : Parts) (a : Addresses) → IsLocal p (bytes_step p a)
+bytes_step-local p a f g (Int k) same = refl
+bytes_step-local p a f g (Pointer t) same = refl
+bytes_step-local p a f g VoidPointer same = refl
+bytes_step-local p a f g (Function h) same = refl
+bytes_step-local p a f g (Struct s) same = λ i v. fields_local (shape_of p) f g (struct_shape (shape_of p) (fields_of p s)).size (fields_of p s) same (parts_in (out-Value v)) 0 i
+bytes_step-local p a f g (Union u) same = λ i v. union_local (shape_of p) f g (members_of p u) same (out-Value v) i
+bytes_step-local p a f g (Array t n) same = λ i v. items_bytes (same t (0, omega arith, refl) i) (parts_in (out-Value v))
 
 -- and so does the test of its type
 fields_types_local : (f g : ℕ → Value → Bool) (fs : List FieldDef) → ((u : ℕ) → Contains (field_types fs) u → f u ≡ g u) → (vs : List Value) → fields_have_types f fs vs ≡ fields_have_types g fs vs
@@ -239,40 +238,40 @@ length-items rec typed size lengths (v ∷ vs) h =
     let rest = length-items rec typed size lengths vs (and_right (typed v) (list_all typed vs) h) in
     omega (arith, here, rest, length-append (rec v) (items_bytes rec vs))
 
-module _ (w : ℕ) (p : Program) (store : Store) (pointer : IsAlignment w) (built : IsBuilt w p.types) (a : Addresses) where
+module _ (p : Program) (store : Store) (built : IsBuilt p.types) (a : Addresses) where
   settled_at : (t : ℕ) (ty : Ty) → slice_get p.types.types t ≡ Some ty → is_settled (held_by p.types) (length p.types.types) t ≡ true
-  settled_at t ty e = settled w p.types built t (slice_get_within p.types.types t ty e)
+  settled_at t ty e = settled p.types built t (slice_get_within p.types.types t ty e)
 
   -- the bytes of a value by its type
-  pub bytes_of-is : (t : ℕ) (ty : Ty) → slice_get p.types.types t ≡ Some ty → (v : Value) → bytes_of w p.types a t v ≡ bytes_step w p.types a (bytes_of w p.types a) ty v
+  pub bytes_of-is : (t : ℕ) (ty : Ty) → slice_get p.types.types t ≡ Some ty → (v : Value) → bytes_of p.types a t v ≡ bytes_step p.types a (bytes_of p.types a) ty v
   bytes_of-is t ty e v =
-      ap (λ h. h v) (by_type-is p.types (bytes_step w p.types a) (λ v. []) (bytes_step-local w p.types a) t (settled_at t ty e) ∙ ap (at_type (bytes_step w p.types a (bytes_of w p.types a)) (λ v. [])) e)
+      ap (λ h. h v) (by_type-is p.types (bytes_step p.types a) (λ v. []) (bytes_step-local p.types a) t (settled_at t ty e) ∙ ap (at_type (bytes_step p.types a (bytes_of p.types a)) (λ v. [])) e)
 
   pub has_type-is : (t : ℕ) (ty : Ty) → slice_get p.types.types t ≡ Some ty → (v : Value) → has_type p store t v ≡ type_step p store (has_type p store) ty v
   has_type-is t ty e v =
       ap (λ h. h v) (by_type-is p.types (type_step p store) (λ v. false) (type_step-local p store) t (settled_at t ty e) ∙ ap (at_type (type_step p store (has_type p store)) (λ v. false)) e)
 
-  length_by : (n : ℕ) → ((t : ℕ) (v : Value) → is_settled (held_by p.types) n t ≡ true → has_type p store t v ≡ true → length (bytes_of w p.types a t v) ≡ size_of w p.types t) → (t : ℕ) (v : Value) → is_settled (held_by p.types) (suc n) t ≡ true → (ty : Ty) → slice_get p.types.types t ≡ Some ty → (l : Layer) → out-Value v ≡ l → layer_has_type p store (has_type p store) ty l ≡ true → length (bytes_step w p.types a (bytes_of w p.types a) ty v) ≡ (shape_step w p.types (shape_of w p.types) ty).size
+  length_by : (n : ℕ) → ((t : ℕ) (v : Value) → is_settled (held_by p.types) n t ≡ true → has_type p store t v ≡ true → length (bytes_of p.types a t v) ≡ size_of p.types t) → (t : ℕ) (v : Value) → is_settled (held_by p.types) (suc n) t ≡ true → (ty : Ty) → slice_get p.types.types t ≡ Some ty → (l : Layer) → out-Value v ≡ l → layer_has_type p store (has_type p store) ty l ≡ true → length (bytes_step p.types a (bytes_of p.types a) ty v) ≡ (shape_step p.types (shape_of p.types) ty).size
   length_by n below t v h (Int k) e l out typed = length-little_endian (int_size k) (int_in k (out-Value v))
-  length_by n below t v h (Pointer u) e l out typed = length-little_endian w (pointer_in a (out-Value v))
-  length_by n below t v h VoidPointer e l out typed = length-little_endian w (pointer_in a (out-Value v))
-  length_by n below t v h (Function f) e l out typed = length-little_endian w (pointer_in a (out-Value v))
+  length_by n below t v h (Pointer u) e l out typed = length-little_endian p.types.pointer (pointer_in a (out-Value v))
+  length_by n below t v h VoidPointer e l out typed = length-little_endian p.types.pointer (pointer_in a (out-Value v))
+  length_by n below t v h (Function f) e l out typed = length-little_endian p.types.pointer (pointer_in a (out-Value v))
   length_by n below t v h (Struct s) e l out typed =
       let fields = fields_of p.types s in
       let held : (u : ℕ) → Contains (field_types fields) u → is_settled (held_by p.types) n u ≡ true = λ u c. settled-edge (held_by p.types) n t u h (rw e c) in
-      let above = next_multiple-above (fields_end (shape_of w p.types) 0 fields) (greatest_align (shape_of w p.types) fields) (greatest_align-low (shape_of w p.types) fields) in
-      let all = length-fields (shape_of w p.types) (low w p.types pointer built) (bytes_of w p.types a) (has_type p store) (struct_shape (shape_of w p.types) fields).size fields (parts_in l) 0 (λ u x c k. below u x (held u c) k) above (struct_layer p store (has_type p store) s l typed) in
+      let above = next_multiple-above (fields_end (shape_of p.types) 0 fields) (greatest_align (shape_of p.types) fields) (greatest_align-low (shape_of p.types) fields) in
+      let all = length-fields (shape_of p.types) (low p.types built) (bytes_of p.types a) (has_type p store) (struct_shape (shape_of p.types) fields).size fields (parts_in l) 0 (λ u x c k. below u x (held u c) k) above (struct_layer p store (has_type p store) s l typed) in
       rw out (omega (arith, all))
   length_by n below t v h (Array u m) e l out typed =
       let held : is_settled (held_by p.types) n u ≡ true = settled-edge (held_by p.types) n t u h (rw e (0, omega arith, refl)) in
       let parts = array_layer p store (has_type p store) u m l typed in
-      let all = length-items (bytes_of w p.types a u) (has_type p store u) (size_of w p.types u) (λ x k. below u x held k) (parts_in l) parts.1 in
-      rw out (all ∙ ap (λ m. size_of w p.types u * m) parts.0)
+      let all = length-items (bytes_of p.types a u) (has_type p store u) (size_of p.types u) (λ x k. below u x held k) (parts_in l) parts.1 in
+      rw out (all ∙ ap (λ m. size_of p.types u * m) parts.0)
   length_by n below t v h (Union u) e (V.Union k body) out typed =
       let ms = members_of p.types u in
       let found = member_known p store (has_type p store) (slice_get ms k) body typed in
       let held = settled-edge (held_by p.types) n t found.0.ty h (rw e (field_in ms k found.0 found.1)) in
-      rw out (length-union (shape_of w p.types) (low w p.types pointer built) (bytes_of w p.types a) ms k body found.0 found.1 (below found.0.ty body held found.2))
+      rw out (length-union (shape_of p.types) (low p.types built) (bytes_of p.types a) ms k body found.0 found.1 (below found.0.ty body held found.2))
   length_by n below t v h (Union u) e (V.Int z) out typed = cc
   length_by n below t v h (Union u) e V.Null out typed = cc
   length_by n below t v h (Union u) e (V.Pointer o k) out typed = cc
@@ -280,15 +279,15 @@ module _ (w : ℕ) (p : Program) (store : Store) (pointer : IsAlignment w) (buil
   length_by n below t v h (Union u) e (V.Struct vs) out typed = cc
   length_by n below t v h (Union u) e (V.Array vs) out typed = cc
 
-  length-settled : (n t : ℕ) (v : Value) → is_settled (held_by p.types) n t ≡ true → has_type p store t v ≡ true → length (bytes_of w p.types a t v) ≡ size_of w p.types t
+  length-settled : (n t : ℕ) (v : Value) → is_settled (held_by p.types) n t ≡ true → has_type p store t v ≡ true → length (bytes_of p.types a t v) ≡ size_of p.types t
   length-settled zero t v h typed = cc
   length-settled (suc n) t v h typed =
       let ty = typed_within p store (length p.types.types) t v typed in
       let one = length_by n (length-settled n) t v h ty.0 ty.1 (out-Value v) refl (sym (has_type-is t ty.0 ty.1 v) ∙ typed) in
-      ap length (bytes_of-is t ty.0 ty.1 v) ∙ (one ∙ sym (ap (λ (s : Shape). s.size) (shape_of-is w p.types built t ty.0 ty.1)))
+      ap length (bytes_of-is t ty.0 ty.1 v) ∙ (one ∙ sym (ap (λ (s : Shape). s.size) (shape_of-is p.types built t ty.0 ty.1)))
 
   -- a value of a type takes as many bytes as the type
-  pub length-bytes_of : (t : ℕ) (v : Value) → has_type p store t v ≡ true → length (bytes_of w p.types a t v) ≡ size_of w p.types t
+  pub length-bytes_of : (t : ℕ) (v : Value) → has_type p store t v ≡ true → length (bytes_of p.types a t v) ≡ size_of p.types t
   length-bytes_of t v typed =
       let ty = typed_within p store (length p.types.types) t v typed in
       length-settled (length p.types.types) t v (settled_at t ty.0 ty.1) typed

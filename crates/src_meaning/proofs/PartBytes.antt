@@ -17,7 +17,6 @@ use Rattle.c_types.specs.Tables.{fields_of, members_of}
 use Rattle.c_types.specs.Refusal.{IsBuilt}
 use Rattle.c_types.specs.Layout.{Shapes, shape_of, size_of, field_start, field_end, nth_start, field_offset, member_offset, members_start, struct_shape, union_shape}
 use Rattle.c_types.specs.Place.{place, step_place, path_place}
-use Rattle.c_types.proofs.Alignment.{IsAlignment}
 use Rattle.c_types.proofs.Capped.{next_multiple-above}
 use Rattle.c_types.proofs.PlaceLaws.{low, same-place, index-step, field-step, first-of}
 use Rattle.src_tree.specs.declared.value.Value.{Value, out-Value, roll-Value, roll-out-Value, Struct as Struct_value, Array as Array_value, Union as Union_value}
@@ -95,55 +94,55 @@ typed_item typed (v ∷ vs) zero part h is =
     let is_v : v ≡ part = cc in rw (← is_v) (and_left (typed v) (list_all typed vs) h)
 typed_item typed (v ∷ vs) (suc k) part h is = typed_item typed vs k part (and_right (typed v) (list_all typed vs) h) is
 
-module _ (w : ℕ) (p : Program) (store : Store) (pointer : IsAlignment w) (built : IsBuilt w p.types) (a : Addresses) where
+module _ (p : Program) (store : Store) (built : IsBuilt p.types) (a : Addresses) where
   -- a step's frame, and the type of the part there
   abbrev StepFrame : ℕ → Layer → Step → Value → Place → Type 0
   StepFrame t l s part to =
-      IsFramed w p.types a t to.ty to.offset (with_part_in l s) × (has_type p store to.ty part ≡ true)
+      IsFramed p.types a t to.ty to.offset (with_part_in l s) × (has_type p store to.ty part ≡ true)
 
-  lengths : (u : ℕ) (v : Value) → has_type p store u v ≡ true → length (bytes_of w p.types a u v) ≡ size_of w p.types u
-  lengths u v typed = length-bytes_of w p store pointer built a u v typed
+  lengths : (u : ℕ) (v : Value) → has_type p store u v ≡ true → length (bytes_of p.types a u v) ≡ size_of p.types u
+  lengths u v typed = length-bytes_of p store built a u v typed
 
-  frame-field : (t s k : ℕ) (vs : List Value) (part : Value) (d : FieldDef) → slice_get p.types.types t ≡ Some (Struct s) → fields_have_types (has_type p store) (fields_of p.types s) vs ≡ true → slice_get (fields_of p.types s) k ≡ Some d → slice_get vs k ≡ Some part → StepFrame t (V.Struct vs) (Field k) part (place d.ty (field_offset w p.types s k))
+  frame-field : (t s k : ℕ) (vs : List Value) (part : Value) (d : FieldDef) → slice_get p.types.types t ≡ Some (Struct s) → fields_have_types (has_type p store) (fields_of p.types s) vs ≡ true → slice_get (fields_of p.types s) k ≡ Some d → slice_get vs k ≡ Some part → StepFrame t (V.Struct vs) (Field k) part (place d.ty (field_offset p.types s k))
   frame-field t s k vs part d e typed at is =
       let fields = fields_of p.types s in
-      let rec : Bytes = bytes_of w p.types a in
-      let size = (struct_shape (shape_of w p.types) fields).size in
-      let slot = slot-field (shape_of w p.types) (low w p.types pointer built) rec (has_type p store) lengths size fields vs 0 k d typed at in (
+      let rec : Bytes = bytes_of p.types a in
+      let size = (struct_shape (shape_of p.types) fields).size in
+      let slot = slot-field (shape_of p.types) (low p.types built) rec (has_type p store) lengths size fields vs 0 k d typed at in (
         record {
           put = λ x. Struct_value (slice_set vs k x);
           puts = λ x. refl;
           before = slot.before;
           after = slot.after;
           place = omega (arith, slot.place);
-          bytes = λ x. bytes_of-is w p store pointer built a t (Struct s) e (Struct_value (slice_set vs k x))
-              ∙ (ap (λ l. struct_bytes (shape_of w p.types) rec fields (Rattle.src_meaning.specs.ValueBytes.parts_in l)) (outs-Struct (slice_set vs k x)) ∙ slot.same x);
+          bytes = λ x. bytes_of-is p store built a t (Struct s) e (Struct_value (slice_set vs k x))
+              ∙ (ap (λ l. struct_bytes (shape_of p.types) rec fields (Rattle.src_meaning.specs.ValueBytes.parts_in l)) (outs-Struct (slice_set vs k x)) ∙ slot.same x);
         },
         typed_field (has_type p store) fields vs k d part typed at is,
       )
 
-  frame-item : (t u n k : ℕ) (vs : List Value) (part : Value) → slice_get p.types.types t ≡ Some (Array u n) → (length vs ≡ n) × (list_all (has_type p store u) vs ≡ true) → k < n → slice_get vs k ≡ Some part → StepFrame t (V.Array vs) (Index k) part (place u (k * size_of w p.types u))
+  frame-item : (t u n k : ℕ) (vs : List Value) (part : Value) → slice_get p.types.types t ≡ Some (Array u n) → (length vs ≡ n) × (list_all (has_type p store u) vs ≡ true) → k < n → slice_get vs k ≡ Some part → StepFrame t (V.Array vs) (Index k) part (place u (k * size_of p.types u))
   frame-item t u n k vs part e typed lt is =
-      let rec : Bytes = bytes_of w p.types a in
-      let slot = slot-item (rec u) (has_type p store u) (size_of w p.types u) (lengths u) vs k typed.1 (omega (arith, lt, typed.0)) in (
+      let rec : Bytes = bytes_of p.types a in
+      let slot = slot-item (rec u) (has_type p store u) (size_of p.types u) (lengths u) vs k typed.1 (omega (arith, lt, typed.0)) in (
         record {
           put = λ x. Array_value (slice_set vs k x);
           puts = λ x. refl;
           before = slot.before;
           after = slot.after;
           place = omega (arith, slot.place);
-          bytes = λ x. bytes_of-is w p store pointer built a t (Array u n) e (Array_value (slice_set vs k x))
+          bytes = λ x. bytes_of-is p store built a t (Array u n) e (Array_value (slice_set vs k x))
               ∙ (ap (λ l. items_bytes (rec u) (Rattle.src_meaning.specs.ValueBytes.parts_in l)) (outs-Array (slice_set vs k x)) ∙ slot.same x);
         },
         typed_item (has_type p store u) vs k part typed.1 is,
       )
 
-  frame-member : (t u k : ℕ) (body : Value) (d : FieldDef) → slice_get p.types.types t ≡ Some (Union u) → slice_get (members_of p.types u) k ≡ Some d → has_type p store d.ty body ≡ true → StepFrame t (V.Union k body) (Member k) body (place d.ty (member_offset w p.types u))
+  frame-member : (t u k : ℕ) (body : Value) (d : FieldDef) → slice_get p.types.types t ≡ Some (Union u) → slice_get (members_of p.types u) k ≡ Some d → has_type p store d.ty body ≡ true → StepFrame t (V.Union k body) (Member k) body (place d.ty (member_offset p.types u))
   frame-member t u k body d e at typed =
       let ms = members_of p.types u in
-      let known = shape_of w p.types in
-      let rec : Bytes = bytes_of w p.types a in
-      let within = member-within known (low w p.types pointer built) rec ms k d at in
+      let known = shape_of p.types in
+      let rec : Bytes = bytes_of p.types a in
+      let within = member-within known (low p.types built) rec ms k d at in
       let rest = zeros ((union_shape known ms).size - (members_start known ms + (known d.ty).size)) in (
         record {
           put = λ x. Union_value k x;
@@ -151,7 +150,7 @@ module _ (w : ℕ) (p : Program) (store : Store) (pointer : IsAlignment w) (buil
           before = little_endian 4 k ++ zeros (members_start known ms - 4);
           after = rest;
           place = simp (length-append, length-replicate, length-little_endian) (omega (arith, within.0));
-          bytes = λ x. bytes_of-is w p store pointer built a t (Union u) e (Union_value k x)
+          bytes = λ x. bytes_of-is p store built a t (Union u) e (Union_value k x)
               ∙ (ap (union_bytes known rec ms) (outs-Union k x)
               ∙ (ap (λ o. little_endian 4 k ++ (zeros (members_start known ms - 4) ++ body_bytes known rec ms o x)) at ∙ simp append_assoc));
         },
@@ -162,14 +161,14 @@ module _ (w : ℕ) (p : Program) (store : Store) (pointer : IsAlignment w) (buil
     by_place : (l : Layer) (q : Place) → q ≡ to → StepFrame t l s part q → StepFrame t l s part to
     by_place l q e f = subst (StepFrame t l s part) e f
 
-  frame-step : (t : ℕ) (s : Step) (part : Value) (to : Place) (ty : Ty) (l : Layer) → slice_get p.types.types t ≡ Some ty → layer_has_type p store (has_type p store) ty l ≡ true → step_place w p.types (Some ty) s ≡ Some to → part_in l s ≡ Some part → StepFrame t l s part to
+  frame-step : (t : ℕ) (s : Step) (part : Value) (to : Place) (ty : Ty) (l : Layer) → slice_get p.types.types t ≡ Some ty → layer_has_type p store (has_type p store) ty l ≡ true → step_place p.types (Some ty) s ≡ Some to → part_in l s ≡ Some part → StepFrame t l s part to
   frame-step t (Field k) part to (Struct s) (V.Struct vs) e typed at is =
-      let f = field-step (slice_get (fields_of p.types s) k) (field_offset w p.types s k) to at in
-      by_place t (Field k) part to (V.Struct vs) (place f.0.ty (field_offset w p.types s k)) f.2 (frame-field t s k vs part f.0 e typed f.1 is)
+      let f = field-step (slice_get (fields_of p.types s) k) (field_offset p.types s k) to at in
+      by_place t (Field k) part to (V.Struct vs) (place f.0.ty (field_offset p.types s k)) f.2 (frame-field t s k vs part f.0 e typed f.1 is)
   frame-step t (Index k) part to (Array u n) (V.Array vs) e typed at is =
-      let i = index-step (nat_lt k n) (place u (k * size_of w p.types u)) to at in
+      let i = index-step (nat_lt k n) (place u (k * size_of p.types u)) to at in
       let lt : k < n = grind (arith, nat_tests, i.0) in
-      by_place t (Index k) part to (V.Array vs) (place u (k * size_of w p.types u)) i.1 (frame-item t u n k vs part e (array_layer p store (has_type p store) u n (V.Array vs) typed) lt is)
+      by_place t (Index k) part to (V.Array vs) (place u (k * size_of p.types u)) i.1 (frame-item t u n k vs part e (array_layer p store (has_type p store) u n (V.Array vs) typed) lt is)
   frame-step t (Member k) part to (Union u) (V.Union active body) e typed at is = by_active (nat_eq k active) refl is
     where
       by_active : (b : Bool) → nat_eq k active ≡ b → (if b then Some body else None) ≡ Some part → StepFrame t (V.Union active body) (Member k) part to
@@ -177,7 +176,7 @@ module _ (w : ℕ) (p : Program) (store : Store) (pointer : IsAlignment w) (buil
       by_active true h is =
           let same : active ≡ k = grind (arith, nat_tests, h) in
           let is_part : body ≡ part = cc in
-          let f = field-step (slice_get (members_of p.types u) k) (member_offset w p.types u) to at in
+          let f = field-step (slice_get (members_of p.types u) k) (member_offset p.types u) to at in
           let m = member_known p store (has_type p store) (slice_get (members_of p.types u) active) body typed in
           let one : Some m.0 ≡ Some f.0 = sym m.1 ∙ (ap (slice_get (members_of p.types u)) same ∙ f.1) in
           let is_d : m.0 ≡ f.0 = cc in
@@ -215,7 +214,7 @@ module _ (w : ℕ) (p : Program) (store : Store) (pointer : IsAlignment w) (buil
   frame-step t (Member k) part to (Array u n) l e typed at is = absurd (cc)
 
   -- a frame in a frame
-  compose : (t m u one two : ℕ) (c d both : Value → Option Value) → IsFramed w p.types a t m one c → IsFramed w p.types a m u two d → ((part x : Value) → d part ≡ Some x → both part ≡ c x) → IsFramed w p.types a t u (one + two) both
+  compose : (t m u one two : ℕ) (c d both : Value → Option Value) → IsFramed p.types a t m one c → IsFramed p.types a m u two d → ((part x : Value) → d part ≡ Some x → both part ≡ c x) → IsFramed p.types a t u (one + two) both
   compose t m u one two c d both outer inner same = record {
     put = λ x. outer.put (inner.put x);
     puts = λ x. same x (inner.put x) (inner.puts x) ∙ outer.puts (inner.put x);
@@ -226,7 +225,7 @@ module _ (w : ℕ) (p : Program) (store : Store) (pointer : IsAlignment w) (buil
   }
 
   -- a part of a value changes just its own bytes
-  pub frame : (path : List Step) (t : ℕ) (v part : Value) (to : Place) → has_type p store t v ≡ true → path_place w p.types t path ≡ Some to → part_at v path ≡ Some part → IsFramed w p.types a t to.ty to.offset (with_part v path)
+  pub frame : (path : List Step) (t : ℕ) (v part : Value) (to : Place) → has_type p store t v ≡ true → path_place p.types t path ≡ Some to → part_at v path ≡ Some part → IsFramed p.types a t to.ty to.offset (with_part v path)
   frame [] t v part to typed at is =
       let q = same-place t 0 to.ty to.offset at in
       record {
@@ -235,16 +234,16 @@ module _ (w : ℕ) (p : Program) (store : Store) (pointer : IsAlignment w) (buil
         before = [];
         after = [];
         place = q.1;
-        bytes = λ x. ap (λ z. bytes_of w p.types a z x) q.0 ∙ sym (append-nil (bytes_of w p.types a to.ty x));
+        bytes = λ x. ap (λ z. bytes_of p.types a z x) q.0 ∙ sym (append-nil (bytes_of p.types a to.ty x));
       }
   frame (s ∷ path) t v part to typed at is =
       let ty = typed_within p store (length p.types.types) t v typed in
       let first = then_some (part_in (out-Value v) s) (λ part. part_at part path) part is in
-      let f = first-of w p.types t s path to at in
-      let step = frame-step t s first.0 f.part ty.0 (out-Value v) ty.1 (sym (has_type-is w p store pointer built a t ty.0 ty.1 v) ∙ typed) (rw (← ty.1) f.step) first.1 in
+      let f = first-of p.types t s path to at in
+      let step = frame-step t s first.0 f.part ty.0 (out-Value v) ty.1 (sym (has_type-is p store built a t ty.0 ty.1 v) ∙ typed) (rw (← ty.1) f.step) first.1 in
       let inner = frame path f.part.ty first.0 part f.last step.1 f.rest first.2 in
       let whole = compose t f.part.ty f.last.ty f.part.offset f.last.offset (with_part_in (out-Value v) s) (with_part first.0 path) (with_part v (s ∷ path)) step.0 inner (λ x y e. ap (λ o. then_option o (λ q. then_option (with_part q path x) (with_part_in (out-Value v) s))) first.1 ∙ ap (λ o. then_option o (with_part_in (out-Value v) s)) e) in
-      subst (λ o. IsFramed w p.types a t to.ty o (with_part v (s ∷ path))) f.sum (subst (λ z. IsFramed w p.types a t z (f.part.offset + f.last.offset) (with_part v (s ∷ path))) f.ty whole)
+      subst (λ o. IsFramed p.types a t to.ty o (with_part v (s ∷ path))) f.sum (subst (λ z. IsFramed p.types a t z (f.part.offset + f.last.offset) (with_part v (s ∷ path))) f.ty whole)
 
 set_same : {A : Type 0} (xs : List A) (k : ℕ) (x : A) → slice_get xs k ≡ Some x → slice_set xs k x ≡ xs
 set_same [] k x e = cc
@@ -275,8 +274,8 @@ with_same (s ∷ path) v part is =
     ∙ (ap (λ o. then_option o (with_part_in (out-Value v) s)) (with_same path first.0 part first.2) ∙ with_same_in (out-Value v) s first.0 v refl first.1)
 
 -- the bytes at the offset of a place are those of the part there
-pub bytes_at : (w : ℕ) (p : Program) (store : Store) → IsAlignment w → IsBuilt w p.types → (a : Addresses) (path : List Step) (t : ℕ) (v part : Value) (to : Place) → has_type p store t v ≡ true → path_place w p.types t path ≡ Some to → part_at v path ≡ Some part → (before after : List ℕ) × (length before ≡ to.offset) × (bytes_of w p.types a t v ≡ before ++ (bytes_of w p.types a to.ty part ++ after))
-bytes_at w p store pointer built a path t v part to typed at is =
-    let f = frame w p store pointer built a path t v part to typed at is in
+pub bytes_at : (p : Program) (store : Store) → IsBuilt p.types → (a : Addresses) (path : List Step) (t : ℕ) (v part : Value) (to : Place) → has_type p store t v ≡ true → path_place p.types t path ≡ Some to → part_at v path ≡ Some part → (before after : List ℕ) × (length before ≡ to.offset) × (bytes_of p.types a t v ≡ before ++ (bytes_of p.types a to.ty part ++ after))
+bytes_at p store built a path t v part to typed at is =
+    let f = frame p store built a path t v part to typed at is in
     let same : f.put part ≡ v = cc (f.puts part, with_same path v part is) in
-    (f.before, f.after, f.place, ap (bytes_of w p.types a t) (sym same) ∙ f.bytes part)
+    (f.before, f.after, f.place, ap (bytes_of p.types a t) (sym same) ∙ f.bytes part)

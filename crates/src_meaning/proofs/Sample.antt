@@ -36,6 +36,7 @@ members = record { name = 0; ty = 0 } ∷ record { name = 0; ty = 10 } ∷ []
 
 abbrev pub parts : Parts
 parts = record {
+  pointer = 4;
   types =
       T.Int K.Int
       ∷ T.Struct 0

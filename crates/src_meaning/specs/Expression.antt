@@ -5,7 +5,6 @@ use Rattle.lu_base.specs.declared.trap.Trap.TheVariants.{BadIndex, UnionMember, 
 use Rattle.c_types.specs.declared.parts.Parts.{Parts}
 use Rattle.c_types.specs.declared.parts.Ty.{Ty}
 use Rattle.c_types.specs.declared.parts.Ty.TheVariants as T
-use Rattle.c_types.specs.declared.parts.TheConstants.{POINTER_SIZE}
 use Rattle.c_types.specs.declared.path.Step.TheVariants.{Index, Field, Member}
 use Rattle.c_types.specs.Layout.{size_of}
 use Rattle.c_types.specs.Numbering.{is_array}
@@ -83,7 +82,7 @@ abbrev mutual
   -- the value of an expression of type t
   pub value_of : Scope → ℕ → ExprKind → Gives Value
   value_of at t (Number z) = Ok (Int z)
-  value_of at t (SizeOf u) = Ok (Int (pos (size_of POINTER_SIZE at.types u)))
+  value_of at t (SizeOf u) = Ok (Int (pos (size_of at.types u)))
   value_of at t (Local x) = or_trap BadCode (slice_get at.locals x)
   value_of at t (Function_name f) = Ok (Function f)
   value_of at t (Load' m e) = then_do (place_at at e) (value_at at.store)
@@ -126,7 +125,7 @@ abbrev mutual
   address_of at (more_of-TypedPlace t (Item' m p n i) rest) =
       pointer_plus at (expr_type p) (value_at_row at p) (value_at_row at i)
   address_of at (more_of-TypedPlace t (Element' m a n i) rest) =
-      then_do (place_at at a) (λ q. then_do (value_at_row at i) (λ v. then_do (index_below (length_of at.types (place_type a) + 1) v) (λ k. address_at at.types at.store q (k * size_of POINTER_SIZE at.types t))))
+      then_do (place_at at a) (λ q. then_do (value_at_row at i) (λ v. then_do (index_below (length_of at.types (place_type a) + 1) v) (λ k. address_at at.types at.store q (k * size_of at.types t))))
   address_of at (more_of-TypedPlace t (Global g) rest) = address_at at.types at.store (global_place at.types t g) 0
   address_of at (more_of-TypedPlace t (Arrow' m e) rest) =
       then_do (then_do (value_at_row at e) (target at.types at.store t)) (λ q. address_at at.types at.store q 0)

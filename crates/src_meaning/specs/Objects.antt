@@ -5,7 +5,6 @@ use Rattle.lu_spec.specs.Then.{then_option, then_do}
 use Rattle.lu_base.specs.declared.trap.Trap.{Trap}
 use Rattle.lu_base.specs.declared.trap.Trap.TheVariants.{BadPointer, BadFree, BadCode}
 use Rattle.c_types.specs.declared.parts.Parts.{Parts}
-use Rattle.c_types.specs.declared.parts.TheConstants.{POINTER_SIZE}
 use Rattle.c_types.specs.declared.path.Step.{Step}
 use Rattle.c_types.specs.Layout.{size_of, next_multiple}
 use Rattle.c_types.specs.Place.{object_place}
@@ -37,7 +36,7 @@ abbrev pub inside : Place → Step → Place
 inside at step = place at.object (at.path ++ step ∷ [])
 
 abbrev pub object_size : Parts → Object → ℕ
-object_size p o = o.count * size_of POINTER_SIZE p o.elem
+object_size p o = o.count * size_of p o.elem
 
 abbrev pub is_live : Object → Bool
 is_live o = elim o.elements as (λ _. Bool) [ None ↦ false | Some elements ↦ true ]
@@ -110,7 +109,7 @@ store_with store at v =
 -- the place of type t to which a pointer goes: the object is live and has such a place there outside unions
 abbrev pub target_in : Parts → ℕ → ℕ → ℕ → Object → Option Place
 target_in p t object offset x =
-    if is_live x then option_map (place object) (find_place POINTER_SIZE p x.elem x.count offset t) else None
+    if is_live x then option_map (place object) (find_place p x.elem x.count offset t) else None
 
 abbrev pub target : Parts → Store → ℕ → Value → Gives Place
 target p store t (Pointer o k) = or_trap BadPointer (then_option (slice_get store.objects o) (target_in p t o k))
@@ -119,7 +118,7 @@ target p store t _ = Err BadPointer
 -- the offset of a place in its object
 abbrev pub offset_in : Parts → Object → List Step → Option ℕ
 offset_in p x [] = Some 0
-offset_in p x (s ∷ path) = option_map (λ to. to.offset) (object_place POINTER_SIZE p x.elem x.count (s ∷ path))
+offset_in p x (s ∷ path) = option_map (λ to. to.offset) (object_place p x.elem x.count (s ∷ path))
 
 -- the address of a place, so many bytes further on
 abbrev pub address_at : Parts → Store → Place → ℕ → Gives Value

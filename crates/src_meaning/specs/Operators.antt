@@ -7,7 +7,6 @@ use Rattle.c_types.specs.declared.parts.Parts.{Parts}
 use Rattle.c_types.specs.declared.parts.IntKind.{IntKind}
 use Rattle.c_types.specs.declared.parts.Ty.{Ty}
 use Rattle.c_types.specs.declared.parts.Ty.TheVariants as T
-use Rattle.c_types.specs.declared.parts.TheConstants.{POINTER_SIZE}
 use Rattle.c_types.specs.Layout.{size_of}
 use Rattle.src_tree.specs.declared.value.Value.{Value, Int, Null, Pointer, Function}
 use Rattle.src_tree.specs.declared.value.Store.{Store}
@@ -45,7 +44,7 @@ abbrev pub with_kind : {A : Type 0} → Parts → ℕ → (IntKind → Gives A) 
 with_kind p t f = then_do (or_trap BadCode (kind_in (slice_get p.types t))) f
 
 abbrev pub pointed_size : Parts → Option Ty → Option ℕ
-pointed_size p (Some (T.Pointer t)) = Some (size_of POINTER_SIZE p t)
+pointed_size p (Some (T.Pointer t)) = Some (size_of p t)
 pointed_size p _ = None
 
 -- what f gives of the size of the elements to which a pointer type points

@@ -7,7 +7,6 @@ use Rattle.c_types.specs.declared.parts.Signature.{Signature}
 use Rattle.c_types.specs.declared.parts.Ty.{Ty}
 use Rattle.c_types.specs.declared.parts.Ty.TheVariants as T
 use Rattle.c_types.specs.declared.parts.Parts.{Parts}
-use Rattle.c_types.specs.declared.parts.TheConstants.{POINTER_SIZE}
 use Rattle.c_types.specs.Layout.{greatest, size_of}
 use Rattle.c_types.specs.Refusal.{IsBuilt}
 use Rattle.src_tree.specs.declared.program.Init.{Init, Zero}
@@ -92,7 +91,7 @@ are_globals p g (d ∷ ds) = is_global p g d && are_globals p (g + 1) ds
 abbrev pub are_within : Program → ℕ → List Text.Global → Bool
 are_within p room [] = true
 are_within p room (g ∷ gs) =
-    nat_le (size_of POINTER_SIZE p.types g.ty) room && are_within p (room - size_of POINTER_SIZE p.types g.ty) gs
+    nat_le (size_of p.types g.ty) room && are_within p (room - size_of p.types g.ty) gs
 
 -- the most locals of a function, its parameters among them
 abbrev pub greatest_locals : ℕ
@@ -168,5 +167,5 @@ is_valid p =
 
 -- a valid program
 pub record IsValid (p : Program) : Type 0 where
-  pub built : IsBuilt POINTER_SIZE p.types
+  pub built : IsBuilt p.types
   pub rules : IsTrue (is_valid p)

@@ -1,5 +1,4 @@
--- A value as bytes, by recursion on its type. `w` is the size of a pointer; all numbers are little-endian, and what
--- no part takes is zero.
+-- A value as bytes, by recursion on its type. All numbers are little-endian, and what no part takes is zero.
 use Rattle.std.specs.Prelude.{◌≡◌, ℕ, ◌+◌, ◌-◌, List, [], ◌∷◌, ◌++◌, length, replicate, Option, Some, None, slice_get}
 use Rattle.std.specs.Option.{option_map_or}
 use Rattle.lu_spec.specs.LittleEndian.{little_endian}
@@ -8,7 +7,6 @@ use Rattle.c_types.specs.declared.parts.FieldDef.{FieldDef}
 use Rattle.c_types.specs.declared.parts.IntKind.{IntKind}
 use Rattle.c_types.specs.declared.parts.Ty.{Ty}
 use Rattle.c_types.specs.declared.parts.Ty.TheVariants.{Int, Pointer, VoidPointer, Function, Struct, Union, Array}
-use Rattle.c_types.specs.declared.parts.TheConstants.{POINTER_SIZE}
 use Rattle.c_types.specs.Tables.{fields_of, members_of}
 use Rattle.c_types.specs.Layout.{Shapes, int_size, shape_of, field_start, field_end, struct_shape, members_start, union_shape}
 use Rattle.c_types.specs.Recursion.{by_type}
@@ -71,34 +69,34 @@ union_bytes known rec members (V.Union active body) =
     little_endian 4 active ++ (zeros (members_start known members - 4) ++ body_bytes known rec members (slice_get members active) body)
 union_bytes known rec members _ = zeros (union_shape known members).size
 
-abbrev pub bytes_step : ℕ → Parts → Addresses → Bytes → Ty → Value → List ℕ
-bytes_step w p a rec (Int kind) v = little_endian (int_size kind) (int_in kind (out-Value v))
-bytes_step w p a rec (Pointer t) v = little_endian w (pointer_in a (out-Value v))
-bytes_step w p a rec VoidPointer v = little_endian w (pointer_in a (out-Value v))
-bytes_step w p a rec (Function g) v = little_endian w (pointer_in a (out-Value v))
-bytes_step w p a rec (Struct s) v = struct_bytes (shape_of w p) rec (fields_of p s) (parts_in (out-Value v))
-bytes_step w p a rec (Union u) v = union_bytes (shape_of w p) rec (members_of p u) (out-Value v)
-bytes_step w p a rec (Array t n) v = items_bytes (rec t) (parts_in (out-Value v))
+abbrev pub bytes_step : Parts → Addresses → Bytes → Ty → Value → List ℕ
+bytes_step p a rec (Int kind) v = little_endian (int_size kind) (int_in kind (out-Value v))
+bytes_step p a rec (Pointer t) v = little_endian p.pointer (pointer_in a (out-Value v))
+bytes_step p a rec VoidPointer v = little_endian p.pointer (pointer_in a (out-Value v))
+bytes_step p a rec (Function g) v = little_endian p.pointer (pointer_in a (out-Value v))
+bytes_step p a rec (Struct s) v = struct_bytes (shape_of p) rec (fields_of p s) (parts_in (out-Value v))
+bytes_step p a rec (Union u) v = union_bytes (shape_of p) rec (members_of p u) (out-Value v)
+bytes_step p a rec (Array t n) v = items_bytes (rec t) (parts_in (out-Value v))
 
 -- the bytes of a value of type t
-abbrev pub bytes_of : ℕ → Parts → Addresses → Bytes
-bytes_of w p a t = by_type p (bytes_step w p a) (λ v. []) t
+abbrev pub bytes_of : Parts → Addresses → Bytes
+bytes_of p a t = by_type p (bytes_step p a) (λ v. []) t
 
 -- the bytes of an object with these elements of type t
-abbrev pub elements_bytes : ℕ → Parts → Addresses → ℕ → List Value → List ℕ
-elements_bytes w p a t vs = items_bytes (bytes_of w p a t) vs
+abbrev pub elements_bytes : Parts → Addresses → ℕ → List Value → List ℕ
+elements_bytes p a t vs = items_bytes (bytes_of p a t) vs
 
 -- the bytes of an object of the store; none where it is dead
 abbrev pub object_bytes : Parts → Store → Object → List ℕ
 object_bytes p store x =
-    option_map_or (λ vs. elements_bytes POINTER_SIZE p (addresses p store) x.elem vs) x.elements []
+    option_map_or (λ vs. elements_bytes p (addresses p store) x.elem vs) x.elements []
 
 -- a part of type u at an offset of a value of type t, in bytes: whatever the part is, the same bytes stand before
 -- it and after it
-pub record IsFramed (w : ℕ) (p : Parts) (a : Addresses) (t u offset : ℕ) (changed : Value → Option Value) : Type 0 where
+pub record IsFramed (p : Parts) (a : Addresses) (t u offset : ℕ) (changed : Value → Option Value) : Type 0 where
   pub put : Value → Value
   pub puts : (part : Value) → changed part ≡ Some (put part)
   pub before : List ℕ
   pub after : List ℕ
   pub place : length before ≡ offset
-  pub bytes : (part : Value) → bytes_of w p a t (put part) ≡ before ++ (bytes_of w p a u part ++ after)
+  pub bytes : (part : Value) → bytes_of p a t (put part) ≡ before ++ (bytes_of p a u part ++ after)

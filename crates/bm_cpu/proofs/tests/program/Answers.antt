@@ -1,6 +1,5 @@
 use Rattle.std.proofs.Common.{◌≡◌, ◌∙◌, ap, sym, ◌<◌, [], ◌∷◌, length, arith}
 use Rattle.std.specs.Prelude.{slice_get}
-use Rattle.c_types.specs.declared.parts.TheConstants.{POINTER_SIZE}
 use Rattle.c_types.specs.Layout.{size_of}
 use Rattle.bm_code.specs.declared.code.MachineCode.{MachineCode}
 use Rattle.bm_code.specs.declared.code.MachineGlobal.{MachineGlobal}
@@ -19,7 +18,7 @@ returns c =
     let named : 0 < length code.names = omega (arith, ap length c.from_vec.ensures, ap length c.in_ok-vec.ensures.items) in
     let two : length types.types ≡ 2 = ap (λ p. length p.types) c.types.view_is ∙ c.in_ok-types.ensures.types in
     let seven : length code.functions ≡ 7 = ap length c.from_vec-2.ensures ∙ c.in_ok-functions.ensures.count in
-    let size : size_of POINTER_SIZE types 1 ≡ 32 = ap (λ p. size_of POINTER_SIZE p 1) c.types.view_is ∙ c.in_ok-input.ensures.size in
+    let size : size_of types 1 ≡ 32 = ap (λ p. size_of p 1) c.types.view_is ∙ c.in_ok-input.ensures.size in
     let globals : code.globals ≡ input ∷ output ∷ [] = c.from_vec-3.ensures ∙ c.in_ok-vec-2.ensures.items in
     let sites : code.sites ≡ site ∷ [] = c.from_vec-4.ensures ∙ c.in_ok-vec-3.ensures.items in
     let first : IsAcceptedGlobal code input = good_global code input named two c.in_ok-input.ensures.name c.in_ok-input.ensures.of_ints size c.in_ok-input.ensures.bytes in

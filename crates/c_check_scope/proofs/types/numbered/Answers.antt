@@ -15,7 +15,7 @@ loop-ty-preserved c =
     let n = c.loop-ty.ty-index in
     let t = get_or types n (Int Char) in
     let within : n < length types = omega (arith, c.loop-ty-test.true, ap length c.as_slice-ty-items.ensures) in
-    let new : list_any (eq-value.it t) (take n types) ≡ false = fresh 4 c.args.parts.now c.requires n (Int Char) within in
+    let new : list_any (eq-value.it t) (take n types) ≡ false = fresh c.args.parts.now c.requires n (Int Char) within in
     c.in_ok-insert.ensures.keys
     ∙ ap (λ l. insert_key eq-value.it c.loop-ty.numbers.keys (get_or l n (Int Char))) c.as_slice-ty-items.ensures
     ∙ ap (λ ks. insert_key eq-value.it ks t) c.loop-ty.invariant
