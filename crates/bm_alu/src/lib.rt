@@ -1,4 +1,5 @@
-//! Arithmetic on the machine's words of 64 bits.
+//! Machine, words: takes words of 64 bits and an operation, gives the word of the result or a trap. `combine` and
+//! `transform` are exactly the definitions of `specs/Words`.
 #![tactic(auto)]
 
 mod binary;
@@ -6,6 +7,3 @@ mod unary;
 
 pub use binary::{Binary, combine};
 pub use unary::{Unary, int_kind, normalize, transform};
-
-#[cfg(test)]
-mod tests;

@@ -2,5 +2,4 @@ mod AcceptedLemmas
 mod GlobalLemmas
 mod Rows
 mod Spaces
-mod TestLemmas
 mod WordLemmas

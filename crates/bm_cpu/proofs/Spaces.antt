@@ -16,8 +16,8 @@ use Rattle.bm_code.specs.Services.{heap_part, heap_bytes}
 use Rattle.bm_frame.specs.Mapped.{HasObject, IsOfRow, IsMapped, AreKnown}
 use Rattle.bm_frame.proofs.Copying.{insert_twice}
 use Rattle.bm_frame.proofs.Written.{still_mapped}
-use Rattle.bm_space.specs.Space.{IsSpace}
-use Rattle.bm_space.proofs.Added.{heap_added}
+use Rattle.bm_serve.specs.Space.{IsSpace}
+use Rattle.bm_serve.proofs.Added.{heap_added}
 use Rattle.bm_cpu.proofs.Rows.{after_end, after_low, heap_low, above_all, next_low}
 
 some_in : {A : Type 0} (a b : A) → Some a ≡ Some b → a ≡ b

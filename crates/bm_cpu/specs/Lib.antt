@@ -1,5 +1,4 @@
 pub mod Accepted
-pub mod Fit
 pub mod Globals
 pub mod State
 pub mod Words

@@ -1,8 +1,11 @@
-//! Machines that run compiled servers.
+//! The machine: takes code and memory, gives a process that runs calls by ticks. `Machine::run` is exactly the run of the
+//! meaning in bm_code; its other calls change what they name and nothing else.
 #![tactic(auto)]
 
 pub mod first;
 pub mod machine;
 mod objects;
-#[cfg(test)]
-mod tests;
+
+pub use bm_code::code::{MachineCode, MachineFunction, MachineGlobal, MachineSite};
+pub use bm_run::calls::Stop;
+pub use machine::Machine;

@@ -7,7 +7,7 @@ ghost use Rattle.bm_objects.specs.Table.{end_of, next_address};
 ghost use Rattle.bm_frame.specs.Mapped.{IsMapped, AreKnown};
 ghost use Rattle.bm_run.specs.declared.calls.Mode.TheVariants as M;
 ghost use Rattle.bm_run.specs.Came.{IsRun};
-ghost use Rattle.bm_space.specs.Space.{is_heap_object};
+ghost use Rattle.bm_serve.specs.Space.{is_heap_object};
 ghost use Rattle.bm_code.specs.Services.{with_object, without_object};
 ghost use Rattle.bm_cpu.specs.Accepted.{IsAccepted, HasParameters};
 ghost use Rattle.bm_cpu.specs.Globals.{idle_process, initial_process};
@@ -22,7 +22,7 @@ use bm_objects::{Objects, Row};
 use bm_run::callers::Callers;
 use bm_run::calls::{Calls, Mode, Stop};
 use bm_serve::outbox::Outbox;
-use bm_space::space::{Space, free};
+use bm_serve::space::{Space, free};
 use bm_step::run::run;
 use c_types::Sequence;
 use lu_base::{Memory, Message};
@@ -46,7 +46,7 @@ pub struct Machine<'a, B: Bytes> {
 impl<'a, B: Bytes> Model for Machine<'a, B> {
     ghost use Rattle.std.specs.Coded.{codes};
     ghost use Rattle.bm_run.specs.View.{process_in};
-    ghost use Rattle.bm_space.specs.Space.{IsSpace};
+    ghost use Rattle.bm_serve.specs.Space.{IsSpace};
     ghost use Rattle.bm_cpu.specs.Accepted.{IsAccepted};
     ghost use Rattle.bm_cpu.specs.State.{MachineState, content_code};
 

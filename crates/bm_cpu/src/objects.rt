@@ -4,14 +4,14 @@ ghost use Rattle.std.specs.Prelude.{◌≡◌, ◌+◌, ◌*◌, ◌<◌, ◌≤
 ghost use Rattle.std.specs.FinMap.{insert};
 ghost use Rattle.bm_objects.specs.Table.{IsTable, end_of, address_after, next_address};
 ghost use Rattle.bm_code.specs.Services.{heap_part, heap_bytes};
-ghost use Rattle.bm_space.specs.Space.{IsSpace};
+ghost use Rattle.bm_serve.specs.Space.{IsSpace};
 ghost use Rattle.bm_cpu.specs.Accepted.{IsAccepted, IsAcceptedGlobal, global_bytes};
 ghost use Rattle.bm_cpu.specs.Globals.{elements_of, global_row, no_objects, with_global, with_globals};
 
 use bm_code::code::{MachineCode, MachineGlobal};
 use bm_mem::Bytes;
 use bm_objects::{Objects, Row};
-use bm_space::space::Space;
+use bm_serve::space::Space;
 use c_types::{Ty, TyId};
 use lu_base::Memory;
 

@@ -1,4 +1,5 @@
-//! One function under way on the machine, and the instructions that concern it and memory alone.
+//! Machine, one frame: the instructions that concern one function under way and memory alone. Each is exactly its case of
+//! the meaning, or its trap with all as it was.
 #![tactic(auto)]
 
 pub mod frame;
@@ -7,6 +8,4 @@ pub mod locals;
 pub mod memory;
 pub mod pointer;
 pub mod stack;
-#[cfg(test)]
-mod tests;
 pub mod writing;

@@ -1,4 +1,5 @@
-// The instructions of the machine, and their encoding as bytes.
+//! Machine, instructions: takes instructions, gives their bytes, and back. `decode` answers exactly the instructions whose
+//! bytes `encode` gives, or where the first bad one begins.
 #![tactic(auto)]
 
 mod decoder;
@@ -11,6 +12,3 @@ pub use decoder::decode;
 pub use encoder::encode;
 pub use error::{IsaError, Memory};
 pub use instr::{Instr, Operands};
-
-#[cfg(test)]
-mod tests;

@@ -1,4 +1,5 @@
-// Memory by address: objects of bytes, each at the address of its first byte.
+//! Machine, memory: objects of bytes, each at the address of its first byte. Callers see a map from addresses to bytes
+//! (`specs/Content`); each call of `Bytes` is one equation of it.
 #![tactic(auto)]
 
 mod bytes;
@@ -8,6 +9,3 @@ mod vec_bytes;
 pub use bytes::Bytes;
 pub use error::Memory;
 pub use vec_bytes::VecBytes;
-
-#[cfg(test)]
-mod tests;

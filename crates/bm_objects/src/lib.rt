@@ -1,4 +1,5 @@
-// The objects of a process, by address.
+//! Machine, objects: the rows of a process's objects by address, the dead ones too. `Objects::find` answers exactly the
+//! row that has an address among its bytes or as its end.
 #![tactic(auto)]
 
 mod error;
@@ -9,6 +10,3 @@ mod search;
 pub use error::Memory;
 pub use objects::Objects;
 pub use row::Row;
-
-#[cfg(test)]
-mod tests;

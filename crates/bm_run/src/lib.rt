@@ -1,9 +1,7 @@
-//! Runs of the machine's code, over a process in memory.
+//! Machine, calls: the functions that wait, jumps, calls and returns, and ticks. Each is exactly its case of the meaning.
 #![tactic(auto)]
 
 pub mod callers;
 pub mod calls;
 pub mod plain;
-#[cfg(test)]
-mod tests;
 pub mod transfer;

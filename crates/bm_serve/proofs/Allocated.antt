@@ -16,7 +16,7 @@ use Rattle.bm_code.specs.Process.{Frame, Activity, Process}
 use Rattle.bm_code.specs.Frames.{some_or, on_top, advanced}
 use Rattle.bm_code.specs.Transfers.{Effect, Next, trap, running}
 use Rattle.bm_code.specs.Services.{new_row, can_allocate, with_object, allocate, served}
-use Rattle.bm_space.specs.Space.{IsAllocated, IsRefused}
+use Rattle.bm_serve.specs.Space.{IsAllocated, IsRefused}
 use Rattle.bm_serve.specs.Held.{held, process_of}
 use Rattle.bm_serve.specs.Served.{WouldAdd}
 use Rattle.bm_serve.proofs.Tops.{top_some}

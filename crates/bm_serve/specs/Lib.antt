@@ -1,3 +1,4 @@
 pub mod Held
 pub mod Sent
 pub mod Served
+pub mod Space

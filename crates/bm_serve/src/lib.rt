@@ -1,8 +1,8 @@
-//! What the machine does for a program beyond its own frame and memory: objects come and go, messages leave, and a panic ends the call.
+//! Machine, services: objects come and go, messages leave, and a panic ends the call. Each is exactly its case of the
+//! meaning; on want of memory all is as it was.
 #![tactic(auto)]
 
 pub mod outbox;
 pub mod outgoing;
 pub mod service;
-#[cfg(test)]
-mod tests;
+pub mod space;

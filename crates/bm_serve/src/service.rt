@@ -11,18 +11,18 @@ ghost use Rattle.bm_code.specs.Frames.{advanced};
 ghost use Rattle.bm_code.specs.Transfers.{trap};
 ghost use Rattle.bm_code.specs.Services.{served};
 ghost use Rattle.bm_frame.specs.View.{frame_of};
-ghost use Rattle.bm_space.specs.Space.{IsSpace};
+ghost use Rattle.bm_serve.specs.Space.{IsSpace};
 ghost use Rattle.bm_serve.specs.Held.{held, HasKnownSites};
 ghost use Rattle.bm_serve.specs.Served.{IsServed};
 
 use crate::outbox::Outbox;
 use crate::outgoing::{read_message, send};
+use crate::space::{Space, allocate, free};
 use bm_code::code::{MachineCode, MachineSite};
 use bm_code::operation::Service;
 use bm_code::world::World;
 use bm_frame::frame::Frame;
 use bm_mem::Bytes;
-use bm_space::space::{Space, allocate, free};
 use lu_base::Trap;
 
 /// Why a service doesn't go on.

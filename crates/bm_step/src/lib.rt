@@ -1,4 +1,4 @@
-//! Steps and runs of the machine's code, over a process in memory.
+//! Machine, the loop: takes a process in memory and ticks, gives the end of the run. `run` is exactly the meaning's run.
 #![tactic(auto)]
 
 pub mod entry;

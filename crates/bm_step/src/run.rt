@@ -3,7 +3,7 @@
 ghost use Rattle.bm_run.specs.Came.{IsRun};
 ghost use Rattle.bm_run.specs.Transferred.{IsSized};
 ghost use Rattle.bm_run.specs.View.{process_in};
-ghost use Rattle.bm_space.specs.Space.{IsSpace};
+ghost use Rattle.bm_serve.specs.Space.{IsSpace};
 ghost use Rattle.bm_serve.specs.Held.{HasKnownSites};
 
 use crate::step::step;
@@ -12,7 +12,7 @@ use bm_code::world::World;
 use bm_mem::Bytes;
 use bm_run::calls::{Calls, Stop};
 use bm_serve::outbox::Outbox;
-use bm_space::space::Space;
+use bm_serve::space::Space;
 
 /// A run of so many ticks, up to its end. Where no call runs, the answer is that of the last one, and nothing changes.
 pub fn run<B: Bytes>(

@@ -12,7 +12,7 @@ ghost use Rattle.bm_run.specs.Going.{IsStep};
 ghost use Rattle.bm_run.specs.Plain.{IsPlain};
 ghost use Rattle.bm_run.specs.Transferred.{IsSized};
 ghost use Rattle.bm_run.specs.View.{process_in};
-ghost use Rattle.bm_space.specs.Space.{IsSpace};
+ghost use Rattle.bm_serve.specs.Space.{IsSpace};
 ghost use Rattle.bm_serve.specs.Held.{HasKnownSites};
 
 use crate::entry::step_entry;
@@ -25,7 +25,7 @@ use bm_run::plain::step_plain;
 use bm_run::transfer::{function_at, step_transfer};
 use bm_serve::outbox::Outbox;
 use bm_serve::service::{Halt, step_service};
-use bm_space::space::Space;
+use bm_serve::space::Space;
 use lu_base::Trap;
 
 /// An instruction that concerns the frame and memory alone.

@@ -1,4 +1,4 @@
-//! What the system tells of a run, and the lines of the transcript.
+//! Words, the transcript: takes notes of a run, gives their lines. `line_of` is exactly the line of a note.
 #![tactic(auto)]
 
 mod line;
@@ -11,6 +11,3 @@ pub use line::line_of;
 pub use note::Note;
 pub use notes::Notes;
 pub use reason::Reason;
-
-#[cfg(test)]
-mod tests;

@@ -1,6 +1,6 @@
 use Rattle.std.proofs.Common.{◌≡◌, ◌+◌, ap, sym, subst, refl}
-use Rattle.bm_space.specs.Space.{IsSpace}
-use Rattle.bm_space.proofs.Added.{is_fresh, some_there, undone}
+use Rattle.bm_serve.specs.Space.{IsSpace}
+use Rattle.bm_serve.proofs.Added.{is_fresh, some_there, undone}
 use Rattle.bm_cpu.proofs.Spaces.{space_more}
 use Rattle.bm_cpu.proofs.objects.put_object.Goals as goal
 

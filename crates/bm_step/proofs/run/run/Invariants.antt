@@ -1,6 +1,6 @@
 use Rattle.bm_code.specs.Measure.{weight}
 use Rattle.bm_run.specs.View.{process_in}
-use Rattle.bm_space.specs.Space.{IsSpace}
+use Rattle.bm_serve.specs.Space.{IsSpace}
 use Rattle.bm_step.proofs.Runs.{HasCome}
 use Rattle.bm_step.proofs.run.run.Given as goal
 

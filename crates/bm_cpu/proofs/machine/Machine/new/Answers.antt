@@ -1,4 +1,4 @@
-use Rattle.bm_space.proofs.Fresh.{space_fresh}
+use Rattle.bm_serve.proofs.Fresh.{space_fresh}
 use Rattle.bm_cpu.proofs.machine.Machine.new.Goals as goal
 
 pub put_globals-requires-clause-space : goal.put_globals-requires-clause-space

@@ -1,4 +1,0 @@
-use Rattle.bm_serve.proofs.tests.objects_end_where_addresses_do.Goals as goal
-
-pub first_wrong-requires-clause-space : goal.first_wrong-requires-clause-space
-first_wrong-requires-clause-space g c = c.fresh_at-space.ensures c.in_ok-code.code.types

@@ -1,4 +1,0 @@
-use Rattle.bm_serve.proofs.tests.sixteen_messages_wait.Goals as goal
-
-pub first_wrong-requires-clause-space : goal.first_wrong-requires-clause-space
-first_wrong-requires-clause-space g c = c.fresh-space.ensures.space c.in_ok-code.code.types
