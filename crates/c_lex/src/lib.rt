@@ -8,8 +8,6 @@ mod piece;
 mod position;
 mod quoted;
 mod slash;
-#[cfg(test)]
-mod tests;
 mod text;
 mod word;
 

@@ -8,8 +8,6 @@ mod param;
 mod parts;
 pub mod program;
 mod stmt;
-#[cfg(test)]
-mod tests;
 
 pub use c_parse_expr::error::ParseError;
 pub use c_parse_expr::whole::parse_expr;

@@ -2,8 +2,6 @@
 #![tactic(auto)]
 
 #[cfg(test)]
-mod layouts;
-#[cfg(test)]
 mod pairings;
 #[cfg(test)]
 mod programs;

@@ -1,5 +1,5 @@
-use crate::{ParseError, parse, parse_expr};
 use c_lex::lex;
+use c_parse::{ParseError, parse, parse_expr};
 use std::alloc::Global;
 use std::test::Fail;
 

@@ -1,5 +1,5 @@
-use crate::{LexError, lex};
 use c_ast::token::{NumberKind, Token};
+use c_lex::{LexError, lex};
 use std::alloc::{AllocError, Global};
 
 fn kind_name(kind: NumberKind) -> &'static str {
