@@ -12,10 +12,7 @@ use std::alloc::{AllocError, Global};
 use std::mem::replace;
 
 /// The size and the alignment of pointers.
-pub const POINTER: Shape = Shape {
-    size: 4,
-    align: 4,
-};
+pub const POINTER: Shape = Shape { size: 4, align: 4 };
 
 /// A table of types that is being made.
 #[derive(Drop)]
