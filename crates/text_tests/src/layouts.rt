@@ -1,4 +1,4 @@
-// Layouts against C's rules, worked by hand: pointers of 4 bytes, and each alignment as the size.
+// Layouts against C's rules, worked by hand: pointers of 4 and of 8 bytes, and each alignment as the size.
 
 use c_types::{
     BuildError, FieldDef, IntKind, Parts, Path, Sequence, Signature, Step, TagDef, Ty, TypeTable,
@@ -248,6 +248,50 @@ fn pid_of_the_second_process(rt: HostRuntime) -> Result<(), Fail> {
         path.as_slice(),
         [Step::Index(1), Step::Field(1)].as_slice()
     );
+    Ok(())
+}
+
+/// Sizes and alignments of `struct { char c; void *p; }`, of a union of the two and of a function pointer, and where the
+/// pointer stands, in tables of both kinds.
+#[test]
+fn pointers_of_both_sizes(rt: HostRuntime) -> Result<(), Fail> {
+    let alloc = rt.alloc();
+    let types = [
+        CHAR,
+        Ty::VoidPointer,
+        Ty::Struct(0),
+        Ty::Union(0),
+        Ty::Function(0),
+    ];
+    for (pointer, want) in [
+        (4u32, [(1, 1), (4, 4), (8, 4), (8, 4), (4, 4)]),
+        (8, [(1, 1), (8, 8), (16, 8), (16, 8), (8, 8)]),
+    ] {
+        let mut lists = parts(alloc, &types, &[&[0, 1]], &[&[0, 1]])?;
+        lists.pointer = pointer;
+        let table = built_or_fail(alloc, lists)?;
+        assert_eq!(rt; table.pointer(), pointer);
+        assert_eq!(rt; table.offset_of(2, &[Step::Field(1)]), pointer);
+        assert_eq!(rt; table.offset_of(3, &[Step::Member(0)]), pointer);
+        let mut number = 0u32;
+        for (size, align) in want {
+            assert_eq!(rt; table.size_of(number), size, "size of {number}");
+            assert_eq!(rt; table.align_of(number), align, "alignment of {number}");
+            number = number.wrapping_add(1);
+        }
+    }
+    Ok(())
+}
+
+/// No other size of a pointer.
+#[test]
+fn no_other_pointers(rt: HostRuntime) -> Result<(), Fail> {
+    let alloc = rt.alloc();
+    for pointer in [0, 1, 2, 5, 16] {
+        let mut lists = parts(alloc, &[CHAR], &[], &[])?;
+        lists.pointer = pointer;
+        assert!(rt; !well_numbered(&lists), "{pointer}");
+    }
     Ok(())
 }
 

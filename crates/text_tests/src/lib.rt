@@ -1,9 +1,10 @@
-//! Tests of tokens, grammar and layout. A crate with tests is proved twice, so they stand here. It has no code.
+//! Tests of the types of C and of reading texts, from all of their crates: a crate with tests is proved twice, so these stand
+//! here. It has no code.
 #![tactic(auto)]
 
 #[cfg(test)]
-mod grammar;
-#[cfg(test)]
 mod layouts;
 #[cfg(test)]
-mod tokens;
+mod lexemes;
+#[cfg(test)]
+mod programs;

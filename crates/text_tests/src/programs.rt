@@ -1,3 +1,5 @@
+// Texts that are programs and texts that are not, by hand.
+
 use c_lex::lex;
 use c_parse::{ParseError, parse, parse_expr};
 use std::alloc::Global;

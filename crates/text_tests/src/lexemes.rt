@@ -1,3 +1,5 @@
+// Texts and their tokens, by hand.
+
 use c_ast::token::{NumberKind, Token};
 use c_lex::{LexError, lex};
 use std::alloc::{AllocError, Global};
