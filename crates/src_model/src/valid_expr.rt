@@ -2,6 +2,7 @@
 
 ghost use Rattle.std.specs.Prelude.{◌≡◌, ◌&&◌, false, nat_eq, length, slice_get};
 ghost use Rattle.std.specs.Option.{option_map_or};
+ghost use Rattle.src_meaning.specs.Store as store;
 ghost use Rattle.src_meaning.specs.ValidTypes.{ty};
 ghost use Rattle.src_meaning.specs.Constant.{is_zero_literal};
 ghost use Rattle.src_meaning.specs.ValidExpression as spec;
