@@ -3,8 +3,6 @@
 
 mod files;
 mod schedule;
-#[cfg(test)]
-mod tests;
 pub mod texts;
 
 pub use files::generate;

@@ -3,8 +3,6 @@
 
 mod hold;
 mod inbox;
-#[cfg(test)]
-mod tests;
 
 pub use hold::Hold;
 pub use inbox::Inbox;

@@ -1,3 +1,6 @@
 pub mod Documents
 pub mod Items
+pub mod Keeping
+pub mod Keeps
+pub mod RenameOrder
 pub mod Splits

@@ -7,6 +7,8 @@ use Rattle.lu_spec.specs.Then.{then_option}
 use Rattle.toml.specs.Data.{Data, Items, no_items, item, as_str, as_integer}
 use Rattle.plan_file.specs.declared.plan.Dangling.{Dangling}
 use Rattle.plan_file.specs.declared.plan.Dangling.TheVariants as dangling
+use Rattle.plan_file.specs.declared.plan.Pointers.{Pointers}
+use Rattle.plan_file.specs.declared.plan.Pointers.TheVariants as pointers
 
 abbrev pub is_file_byte : ℕ → Bool
 is_file_byte b = is_ascii_alphanumeric b || nat_eq b 46 || nat_eq b 95 || nat_eq b 45 || nat_eq b 47
@@ -90,3 +92,11 @@ dangling_word text =
 
 abbrev pub dangling_of : Data → Option Dangling
 dangling_of d = then_option (as_str d) dangling_word
+
+-- `"narrow"` or `"wide"`
+abbrev pub pointers_word : List ℕ → Option Pointers
+pointers_word text =
+    if bytes_eq text (codes "narrow") then Some pointers.Narrow else (if bytes_eq text (codes "wide") then Some pointers.Wide else None)
+
+abbrev pub pointers_of : Data → Option Pointers
+pointers_of d = then_option (as_str d) pointers_word

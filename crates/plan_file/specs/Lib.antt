@@ -1,5 +1,6 @@
 pub mod Forms
 pub mod Handlers
+pub mod Kept
 pub mod Keys
 pub mod Lookup
 pub mod Plans

@@ -1,5 +1,5 @@
 -- The plan that a text stands for.
-use Rattle.std.specs.Prelude.{ℕ, ◌≤◌, List, [], ◌∷◌, length, Option, Some, None, Result, Ok, Err, if◌then◌else◌, codes}
+use Rattle.std.specs.Prelude.{ℕ, List, [], ◌∷◌, Option, Some, None, Result, Ok, Err, if◌then◌else◌, codes}
 use Rattle.std.specs.Str.{is_utf8}
 use Rattle.lu_spec.specs.Then.{then_do}
 use Rattle.toml.specs.Data.{Data, Members, get_member}
@@ -53,9 +53,3 @@ plan_of bytes = then_do (or_not_toml (document_of bytes)) plan_in
 -- why no document was read: there is none, or no memory
 abbrev pub IsUnread : List ℕ → PlanError → Type 0
 IsUnread bytes e = IsRefusal (or_not_toml (document_of bytes)) e
-
--- a plan has 1..16 servers and at most 64 updates
-pub record KeepsLimits (plan : Plan) : Type 0 where
-  pub some : 1 ≤ length plan.server
-  pub servers : length plan.server ≤ 16
-  pub updates : length plan.update ≤ 64

@@ -1,5 +1,9 @@
 -- The rename tables of an update.
-use Rattle.std.specs.Prelude.{ℕ, List, [], ◌∷◌, ◌++◌, Bool, Option, Some, None, Result, Ok, codes}
+use Rattle.std.specs.Prelude.{ℕ, ◌+◌, List, [], ◌∷◌, ◌++◌, Bool, true, ◌&&◌, nat_eq, nat_lt, if◌then◌else◌, Option, Some, None, Result, Ok, codes}
+use Rattle.std.specs.List.{list_all}
+use Rattle.std.specs.Ordering.{nat_cmp, is_lt}
+use Rattle.std.specs.Cmp.Lexicographic.{slice_cmp}
+use Rattle.std.specs.Str.{bytes_eq}
 use Rattle.lu_spec.specs.Then.{then_option, then_do}
 use Rattle.toml.specs.Data.{Data, Members, no_members, member, get_member, as_str, as_table}
 use Rattle.plan_file.specs.declared.key.Key.{Key}
@@ -77,3 +81,39 @@ renames_in ms = then_do (tables_onto ms [] all_tables) (λ renames. if_passed (h
 abbrev pub renames_of : Option Data → Result (List Rename) PlanError
 renames_of None = Ok []
 renames_of (Some d) = then_do (or_field key.UpdateRename (as_table d)) renames_in
+
+-- the tables by the order in which they are tried
+abbrev pub table_number : RenameTable → ℕ
+table_number rename.Global = 0
+table_number rename.Struct = 1
+table_number rename.Field = 2
+table_number rename.Union = 3
+table_number rename.Member = 4
+table_number rename.Function = 5
+table_number rename.Site = 6
+
+-- where a text stands among some words
+abbrev pub place_among : List (List ℕ) → List ℕ → ℕ
+place_among [] text = 0
+place_among (word ∷ words) text = if bytes_eq text word then 0 else place_among words text + 1
+
+-- the number of the table of a word
+abbrev pub table_place : List ℕ → ℕ
+table_place word = place_among rename_words word
+
+-- a rename is of an earlier table, or of this one and its old name is less by its bytes
+abbrev pub comes_before_name : Rename → ℕ → List ℕ → Bool
+comes_before_name r table old =
+    if nat_eq (table_place r.table) table then is_lt (slice_cmp nat_cmp r.old old) else nat_lt (table_place r.table) table
+
+abbrev pub comes_before : Rename → Rename → Bool
+comes_before a b = comes_before_name a (table_place b.table) b.old
+
+-- each comes before all behind it, so no table has one old name twice
+abbrev pub are_in_order : List Rename → Bool
+are_in_order [] = true
+are_in_order (r ∷ rs) = list_all (comes_before r) rs && are_in_order rs
+
+-- they are in order, and each is of one of the first so many tables
+abbrev pub are_in_order_below : ℕ → List Rename → Bool
+are_in_order_below tables renames = are_in_order renames && list_all (λ r. nat_lt (table_place r.table) tables) renames

@@ -7,7 +7,8 @@ use Rattle.toml.specs.Data.{Data, Members, as_table}
 use Rattle.plan_file.specs.declared.key.Key.TheVariants as key
 use Rattle.plan_file.specs.declared.error.PlanError.{PlanError}
 use Rattle.plan_file.specs.declared.plan.Server.{Server}
-use Rattle.plan_file.specs.Forms.{is_name, is_file_name, text_where, number_between}
+use Rattle.plan_file.specs.declared.plan.Pointers.TheVariants as pointers
+use Rattle.plan_file.specs.Forms.{is_name, is_file_name, text_where, number_between, pointers_of}
 use Rattle.plan_file.specs.Lookup.{needed, defaulted, or_field, if_passed, has_only}
 
 abbrev pub has_server_name : List Server → List ℕ → Bool
@@ -17,7 +18,7 @@ abbrev pub has_server_number : List Server → ℕ → Bool
 has_server_number servers number = list_any (λ (s : Server). nat_eq s.number number) servers
 
 abbrev pub server_words : List (List ℕ)
-server_words = codes "name" ∷ codes "number" ∷ codes "source" ∷ codes "version" ∷ []
+server_words = codes "name" ∷ codes "number" ∷ codes "source" ∷ codes "version" ∷ codes "pointers" ∷ []
 
 -- the server that a table stands for behind the earlier ones, or its first refusal
 unfoldable pub server_of : List Server → Members → Result Server PlanError
@@ -28,8 +29,9 @@ server_of earlier ms =
     if_passed (not (has_server_number earlier number)) key.ServerNumber (
     then_do (needed ms (codes "source") key.ServerSource (text_where is_file_name)) (λ source.
     then_do (defaulted ms (codes "version") key.ServerVersion (number_between 1 1000000) 1) (λ version.
+    then_do (defaulted ms (codes "pointers") key.ServerPointers pointers_of pointers.Narrow) (λ size.
     if_passed (has_only server_words ms) key.ServerUnknown (
-    Ok (record { name = name; number = number; source = source; version = version }))))))))
+    Ok (record { name = name; number = number; source = source; version = version; pointers = size })))))))))
 
 -- the server that an item of the list stands for
 abbrev pub server_at : List Server → Data → Result Server PlanError

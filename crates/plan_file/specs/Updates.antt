@@ -9,12 +9,13 @@ use Rattle.plan_file.specs.declared.error.PlanError.{PlanError}
 use Rattle.plan_file.specs.declared.plan.Server.{Server}
 use Rattle.plan_file.specs.declared.plan.Update.{Update}
 use Rattle.plan_file.specs.declared.plan.Dangling.TheVariants as dangling
+use Rattle.plan_file.specs.declared.plan.Pointers.TheVariants as pointers
 use Rattle.plan_file.specs.declared.update.Target.{Target}
 use Rattle.plan_file.specs.declared.update.Step.{Step}
 use Rattle.plan_file.specs.declared.settings.Settings.{Settings}
-use Rattle.plan_file.specs.Forms.{is_name, is_file_name, is_filter, text_where, number_between, count_of, int_of, dangling_of}
+use Rattle.plan_file.specs.Forms.{is_name, is_file_name, is_filter, text_where, number_between, count_of, int_of, dangling_of, pointers_of}
 use Rattle.plan_file.specs.Lookup.{optional, needed, defaulted, or_field, if_passed, has_only, each_onto}
-use Rattle.plan_file.specs.Renames.{renames_of}
+use Rattle.plan_file.specs.Renames.{renames_of, are_in_order}
 use Rattle.plan_file.specs.Handlers.{handlers_of}
 
 -- the place and the own version of the server of a name, where the first of the list has that place
@@ -49,7 +50,8 @@ step_of servers earlier ms =
     then_do (needed ms (codes "to") key.UpdateTo (number_between 1 1000000)) (λ to.
     if_passed (not (is_version target earlier to)) key.UpdateTo (
     then_do (needed ms (codes "source") key.UpdateSource (text_where is_file_name)) (λ source.
-    Ok (record { name = name; server = target.server; from = from; to = to; source = source })))))))))
+    then_do (defaulted ms (codes "pointers") key.UpdatePointers pointers_of pointers.Narrow) (λ size.
+    Ok (record { name = name; server = target.server; from = from; to = to; source = source; pointers = size }))))))))))
 
 abbrev pub hold_at : List ℤ → Data → Result ℤ PlanError
 hold_at earlier d = or_field key.UpdateHold (int_of d)
@@ -77,8 +79,8 @@ settings_of ms =
 
 abbrev pub update_words : List (List ℕ)
 update_words =
-    codes "name" ∷ codes "server" ∷ codes "from" ∷ codes "to" ∷ codes "source" ∷ codes "filter" ∷ codes "hold" ∷ codes "tries"
-    ∷ codes "dangling" ∷ codes "gated" ∷ codes "after" ∷ codes "rename" ∷ codes "handler" ∷ []
+    codes "name" ∷ codes "server" ∷ codes "from" ∷ codes "to" ∷ codes "source" ∷ codes "pointers" ∷ codes "filter" ∷ codes "hold"
+    ∷ codes "tries" ∷ codes "dangling" ∷ codes "gated" ∷ codes "after" ∷ codes "rename" ∷ codes "handler" ∷ []
 
 -- the update that a table stands for behind the earlier ones, or its first refusal
 unfoldable pub update_of : List Server → List Update → Members → Result Update PlanError
@@ -94,6 +96,7 @@ update_of servers earlier ms =
       from = step.from;
       to = step.to;
       source = step.source;
+      pointers = step.pointers;
       filter = settings.filter;
       hold = settings.hold;
       tries = settings.tries;
@@ -107,3 +110,7 @@ update_of servers earlier ms =
 -- the update that an item of the list stands for
 abbrev pub update_at : List Server → List Update → Data → Result Update PlanError
 update_at servers earlier d = then_do (or_field key.Update (as_table d)) (update_of servers earlier)
+
+-- the renames are in the order of tables and old names
+abbrev pub has_renames_in_order : Update → Bool
+has_renames_in_order u = are_in_order u.rename

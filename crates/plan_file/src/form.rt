@@ -5,7 +5,7 @@ ghost use Rattle.std.specs.List.{list_all};
 ghost use Rattle.plan_file.specs.Forms as form;
 ghost use Rattle.toml.specs.View.{view};
 
-use crate::Dangling;
+use crate::{Dangling, Pointers};
 use toml::Value;
 
 // The form of a text.
@@ -186,6 +186,27 @@ fn dangling_word(text: &str) -> Option<Dangling>
         Some(Dangling::Refuse)
     } else if text == "null" {
         Some(Dangling::Null)
+    } else {
+        None
+    }
+}
+
+pub fn pointers(value: &Value) -> Option<Pointers>
+    ensures { result ≡ form.pointers_of (view value.now) }
+{
+    match value.as_str() {
+        Some(text) => pointers_word(text),
+        None => None,
+    }
+}
+
+fn pointers_word(text: &str) -> Option<Pointers>
+    ensures { result ≡ form.pointers_word text.now }
+{
+    if text == "narrow" {
+        Some(Pointers::Narrow)
+    } else if text == "wide" {
+        Some(Pointers::Wide)
     } else {
         None
     }

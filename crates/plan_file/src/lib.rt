@@ -11,12 +11,10 @@ mod read;
 mod rename;
 mod server;
 mod settings;
-#[cfg(test)]
-mod tests;
 mod update;
 
 pub use error::PlanError;
 pub use key::{Key, LimitedList};
 pub use lu_base::{Memory, Name, Sequence};
-pub use plan::{Dangling, Handler, Plan, Rename, Server, Update};
+pub use plan::{Dangling, Handler, Plan, Pointers, Rename, Server, Update};
 pub use read::read_plan;

@@ -1,5 +1,5 @@
 // The value of a key in a table, or the refusal of that key.
-ghost use Rattle.std.specs.Prelude.{◌≡◌, ◌≤◌, Some, None, Ok, Err, map, length, IfOk, option_map, option_copied, MatchResult, true};
+ghost use Rattle.std.specs.Prelude.{◌≡◌, ◌≤◌, codes, Some, None, Ok, Err, map, length, IfOk, option_map, option_copied, MatchResult, true};
 ghost use Rattle.std.specs.List.{list_any};
 ghost use Rattle.std.specs.Str.{bytes_eq};
 ghost use Rattle.toml.specs.Data.{get_member};
@@ -8,8 +8,8 @@ ghost use Rattle.plan_file.specs.Forms as forms;
 ghost use Rattle.plan_file.specs.TextForms.{fits_form};
 ghost use Rattle.plan_file.specs.Lookup as lookup;
 
-use crate::form::{TextForm, number_between};
-use crate::{Key, LimitedList, PlanError};
+use crate::form::{TextForm, number_between, pointers};
+use crate::{Key, LimitedList, PlanError, Pointers};
 use lu_base::Name;
 use std::alloc::Global;
 use toml::{Table, Value};
@@ -74,6 +74,19 @@ pub fn number_or(
     ensures { result ≡ lookup.defaulted (table_view table.now) word.now name (forms.number_between low high) default }
 {
     Ok(number(table, word, name, low, high)?.unwrap_or(default))
+}
+
+// The size of a program's pointers, narrow where it is left out.
+pub fn pointers_or_narrow(table: &Table, name: Key) -> Result<Pointers, PlanError>
+    ensures { result ≡ lookup.defaulted (table_view table.now) (codes "pointers") name forms.pointers_of Pointers.Narrow }
+{
+    match find(table, "pointers") {
+        None => Ok(Pointers::Narrow),
+        Some(value) => match pointers(value) {
+            Some(pointers) => Ok(pointers),
+            None => Err(PlanError::Field { name }),
+        },
+    }
 }
 
 // A text of some form that may be left out.

@@ -23,6 +23,8 @@ pub struct Server {
     pub source: Name,
     /// The number of the program that the server begins with, 1..1,000,000.
     pub version: u32,
+    /// The size of that program's pointers.
+    pub pointers: Pointers,
 }
 
 /// An update of a plan.
@@ -38,6 +40,8 @@ pub struct Update {
     pub to: u32,
     /// The name of the source's file.
     pub source: Name,
+    /// The size of the pointers of the program that the update brings.
+    pub pointers: Pointers,
     /// The text of the filter, an expression of at most 4,096 bytes.
     pub filter: Name,
     /// The types of message that are held back while the update is active, at most 64.
@@ -54,6 +58,15 @@ pub struct Update {
     pub rename: Sequence<Rename>,
     /// The handlers, 0..16.
     pub handler: Sequence<Handler>,
+}
+
+/// The size of a program's pointers and function pointers.
+#[derive(Clone, Copy, Debug, PartialEq, Eq)]
+pub enum Pointers {
+    /// 4 bytes.
+    Narrow,
+    /// 8 bytes.
+    Wide,
 }
 
 /// What becomes of a pointer to an object that is dead.

@@ -1,8 +1,11 @@
-ghost use Rattle.std.specs.Prelude.{◌≡◌, ◌≤◌, codes, length, IfOk, MatchResult, Some};
+ghost use Rattle.std.specs.Prelude.{◌≡◌, ◌≤◌, codes, length, IfOk, IsTrue, MatchResult, Some};
+ghost use Rattle.std.specs.List.{list_all};
 ghost use Rattle.toml.specs.Data.{get_member};
 ghost use Rattle.toml.specs.View.{table_view};
 ghost use Rattle.plan_file.specs.Lookup.{Reads};
-ghost use Rattle.plan_file.specs.Plans.{plan_of, plan_in, servers_of, updates_of, document_of, IsUnread, KeepsLimits};
+ghost use Rattle.plan_file.specs.Plans.{plan_of, plan_in, servers_of, updates_of, document_of, IsUnread};
+ghost use Rattle.plan_file.specs.Updates.{has_renames_in_order};
+ghost use Rattle.plan_file.specs.Kept.{KeepsForms};
 
 use crate::form::TextForm;
 use crate::lookup::{find, has_only, needed_text, table_items};
@@ -12,11 +15,12 @@ use crate::{Key, LimitedList, Plan, PlanError, Sequence, Server, Update};
 use std::alloc::Global;
 use toml::Table;
 
-/// The plan that a file's bytes stand for, or the first refusal in the order of `Key`. `NotToml` comes before all others.
+/// The plan that a file's bytes stand for, which keeps the forms and limits of all keys, or the first refusal in the order of
+/// `Key`. `NotToml` comes before all others.
 #[tactic(auto, unfolding(crate::specs::Plans::plan_of))]
 pub fn read_plan(alloc: Global, bytes: &[u8]) -> Result<Plan, PlanError>
     ensures answer { Reads (plan_of bytes.now) result }
-    ensures limits { IfOk result KeepsLimits }
+    ensures forms { IfOk result KeepsForms }
 {
     let document = read_document(alloc, bytes)?;
     plan_in(alloc, &document)
@@ -39,7 +43,7 @@ fn read_document(alloc: Global, bytes: &[u8]) -> Result<Table, PlanError>
 #[tactic(auto, unfolding(crate::specs::Plans::plan_in))]
 fn plan_in(alloc: Global, document: &Table) -> Result<Plan, PlanError>
     ensures answer { Reads (plan_in (table_view document.now)) result }
-    ensures limits { IfOk result KeepsLimits }
+    ensures forms { IfOk result KeepsForms }
 {
     let schedule = needed_text(
         alloc,
@@ -80,6 +84,7 @@ fn updates(
 ) -> Result<Sequence<Update>, PlanError>
     ensures answer { Reads (updates_of servers.now (get_member (codes "update") (table_view document.now))) result }
     ensures count { IfOk result (λ updates. length updates ≤ 64) }
+    ensures order { IfOk result (λ updates. IsTrue (list_all has_renames_in_order updates)) }
 {
     match find(document, "update") {
         None => Ok(Sequence::from_vec(Vec::new(alloc))),

@@ -1,5 +1,5 @@
 // The rename tables of an update.
-ghost use Rattle.std.specs.Prelude.{◌≡◌, [], ◌∷◌, ◌++◌, Ok, codes, MatchResult, string_bytes};
+ghost use Rattle.std.specs.Prelude.{◌≡◌, ◌+◌, [], ◌∷◌, ◌++◌, Ok, codes, IfOk, IsTrue, MatchResult, OnOk, string_bytes};
 ghost use Rattle.toml.specs.Data.{get_member};
 ghost use Rattle.toml.specs.View.{view, table_view};
 ghost use Rattle.plan_file.specs.Lookup.{Reads, IsRefusal, or_field};
@@ -76,7 +76,8 @@ impl RenameTable {
 
 // The renames of an update's table.
 pub fn read_renames(alloc: Global, table: &Table) -> Result<Sequence<Rename>, PlanError>
-    ensures { Reads (renames.renames_of (get_member (codes "rename") (table_view table.now))) result }
+    ensures answer { Reads (renames.renames_of (get_member (codes "rename") (table_view table.now))) result }
+    ensures order { IfOk result (λ found. IsTrue (renames.are_in_order found)) }
 {
     match find(table, "rename") {
         None => Ok(Sequence::from_vec(Vec::new(alloc))),
@@ -90,8 +91,9 @@ pub fn read_renames(alloc: Global, table: &Table) -> Result<Sequence<Rename>, Pl
 }
 
 fn read_tables(alloc: Global, tables: &Table) -> Result<Vec<Rename>, PlanError>
-    ensures { MatchResult result (λ found. renames.renames_in (table_view tables.now) ≡ Ok found.items)
+    ensures answer { MatchResult result (λ found. renames.renames_in (table_view tables.now) ≡ Ok found.items)
         (IsRefusal (renames.renames_in (table_view tables.now))) }
+    ensures order { IfOk result (λ found. IsTrue (renames.are_in_order found.items)) }
 {
     let mut found = Vec::new(alloc);
     push_table(alloc, &mut found, tables, RenameTable::Global)?;
@@ -122,9 +124,11 @@ fn push_table(
     tables: &Table,
     kind: RenameTable,
 ) -> Result<(), PlanError>
-    ensures { MatchResult result
+    requires { IsTrue (renames.are_in_order_below (renames.table_number kind) found.old.items) }
+    ensures answer { MatchResult result
         (λ _. renames.table_onto kind found.old.items (get_member (renames.rename_word kind) (table_view tables.now)) ≡ Ok found.new.items)
         (IsRefusal (renames.table_onto kind found.old.items (get_member (renames.rename_word kind) (table_view tables.now)))) }
+    ensures order { OnOk result (IsTrue (renames.are_in_order_below (renames.table_number kind + 1) found.new.items)) }
 {
     match find(tables, kind.word()) {
         None => Ok(()),
@@ -141,9 +145,11 @@ fn push_entries(
     entries: &Table,
     kind: RenameTable,
 ) -> Result<(), PlanError>
-    ensures { MatchResult result
+    requires { IsTrue (renames.are_in_order_below (renames.table_number kind) found.old.items) }
+    ensures answer { MatchResult result
         (λ _. renames.entries_onto kind found.old.items (table_view entries.now) ≡ Ok found.new.items)
         (IsRefusal (renames.entries_onto kind found.old.items (table_view entries.now))) }
+    ensures order { OnOk result (IsTrue (renames.are_in_order_below (renames.table_number kind + 1) found.new.items)) }
 {
     for (old, value) in entries.iter() {
         let rename = read_rename(alloc, kind, old.as_str(), value)?;

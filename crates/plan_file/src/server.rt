@@ -5,7 +5,7 @@ ghost use Rattle.plan_file.specs.Lookup.{Reads, IsRefusal, each_onto};
 ghost use Rattle.plan_file.specs.Servers.{server_of, server_at, has_server_name, has_server_number};
 
 use crate::form::TextForm;
-use crate::lookup::{has_only, needed_number, needed_text, number_or};
+use crate::lookup::{has_only, needed_number, needed_text, number_or, pointers_or_narrow};
 use crate::{Key, PlanError, Server};
 use std::alloc::Global;
 use toml::{Table, Value};
@@ -59,7 +59,8 @@ fn read_server(alloc: Global, earlier: &[Server], table: &Table) -> Result<Serve
         TextForm::FileName,
     )?;
     let version = number_or(table, "version", Key::ServerVersion, 1, 1_000_000, 1)?;
-    if !has_only(table, &["name", "number", "source", "version"]) {
+    let pointers = pointers_or_narrow(table, Key::ServerPointers)?;
+    if !has_only(table, &["name", "number", "source", "version", "pointers"]) {
         return Err(PlanError::Field {
             name: Key::ServerUnknown,
         });
@@ -69,6 +70,7 @@ fn read_server(alloc: Global, earlier: &[Server], table: &Table) -> Result<Serve
         number,
         source,
         version,
+        pointers,
     })
 }
 

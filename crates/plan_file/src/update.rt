@@ -1,24 +1,25 @@
 // The updates of a plan.
-ghost use Rattle.std.specs.Prelude.{◌≡◌, ◌<◌, ◌+◌, [], length, Ok, IfOk, MatchResult, codes};
+ghost use Rattle.std.specs.Prelude.{◌≡◌, ◌<◌, ◌+◌, [], length, true, Ok, IfOk, IsTrue, MatchResult, codes};
 ghost use Rattle.toml.specs.View.{view, table_view, items_view};
+ghost use Rattle.std.specs.List.{list_all};
 ghost use Rattle.plan_file.specs.declared.key.Key.TheVariants as key;
 ghost use Rattle.plan_file.specs.Lookup.{Reads, IsRefusal, each_onto, needed};
 ghost use Rattle.plan_file.specs.Updates as definitions;
 
 use crate::form::TextForm;
 use crate::handler::read_handlers;
-use crate::lookup::{find, has_only, needed_number, needed_text};
+use crate::lookup::{find, has_only, needed_number, needed_text, pointers_or_narrow};
 use crate::rename::read_renames;
 use crate::settings::read_settings;
-use crate::{Key, PlanError, Server, Update};
+use crate::{Key, PlanError, Pointers, Server, Update};
 use lu_base::Name;
 use std::alloc::Global;
 use toml::{Table, Value};
 
 // The keys of an update.
-const WORDS: [&str; 13] = [
-    "name", "server", "from", "to", "source", "filter", "hold", "tries", "dangling", "gated",
-    "after", "rename", "handler",
+const WORDS: [&str; 14] = [
+    "name", "server", "from", "to", "source", "pointers", "filter", "hold", "tries", "dangling",
+    "gated", "after", "rename", "handler",
 ];
 
 // The server that an update is of: its place in the plan, and its own version.
@@ -36,6 +37,7 @@ pub struct Step {
     pub from: u32,
     pub to: u32,
     pub source: Name,
+    pub pointers: Pointers,
 }
 
 // The updates of a list of tables.
@@ -47,6 +49,7 @@ pub fn read_updates(
     ensures answer { MatchResult result (λ read. each_onto (definitions.update_at servers.now) [] (items_view items.now) ≡ Ok read.items)
         (IsRefusal (each_onto (definitions.update_at servers.now) [] (items_view items.now))) }
     ensures count { IfOk result (λ read. length read.items ≡ length items.now) }
+    ensures order { IfOk result (λ read. IsTrue (list_all definitions.has_renames_in_order read.items)) }
 {
     let mut read = Vec::new(alloc);
     let mut rest = items;
@@ -64,7 +67,8 @@ fn read_item(
     earlier: &[Update],
     item: &Value,
 ) -> Result<Update, PlanError>
-    ensures { Reads (definitions.update_at servers.now earlier.now (view item.now)) result }
+    ensures answer { Reads (definitions.update_at servers.now earlier.now (view item.now)) result }
+    ensures order { IfOk result (λ update. IsTrue (definitions.has_renames_in_order update)) }
 {
     match item.as_table() {
         Some(table) => read_update(alloc, servers, earlier, table),
@@ -79,7 +83,8 @@ fn read_update(
     earlier: &[Update],
     table: &Table,
 ) -> Result<Update, PlanError>
-    ensures { Reads (definitions.update_of servers.now earlier.now (table_view table.now)) result }
+    ensures answer { Reads (definitions.update_of servers.now earlier.now (table_view table.now)) result }
+    ensures order { IfOk result (λ update. IsTrue (definitions.has_renames_in_order update)) }
 {
     let step = read_step(alloc, servers, earlier, table)?;
     let settings = read_settings(alloc, table)?;
@@ -96,6 +101,7 @@ fn read_update(
         from: step.from,
         to: step.to,
         source: step.source,
+        pointers: step.pointers,
         filter: settings.filter,
         hold: settings.hold,
         tries: settings.tries,
@@ -142,12 +148,14 @@ fn read_step(
         Key::UpdateSource,
         TextForm::FileName,
     )?;
+    let pointers = pointers_or_narrow(table, Key::UpdatePointers)?;
     Ok(Step {
         name,
         server: target.server,
         from,
         to,
         source,
+        pointers,
     })
 }
 

@@ -7,8 +7,6 @@ mod event;
 mod line;
 mod number;
 mod schedule;
-#[cfg(test)]
-mod tests;
 mod word;
 
 pub use error::SchedError;

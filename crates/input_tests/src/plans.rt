@@ -1,4 +1,4 @@
-use crate::{Dangling, PlanError, read_plan};
+use plan_file::{Dangling, PlanError, Pointers, read_plan};
 use std::alloc::Global;
 use std::process::Abort;
 use std::test::Fail;
@@ -40,7 +40,15 @@ const TEXTS: [(&str, &str); 21] = [
 ];
 
 // Tables of a first server, and what each gives.
-const SERVERS: [(&str, &str); 18] = [
+const SERVERS: [(&str, &str); 20] = [
+    (
+        "name = \"a\"\nnumber = 1\nsource = \"a.c\"\npointers = \"big\"\n",
+        "field server.pointers",
+    ),
+    (
+        "name = \"a\"\nnumber = 1\nsource = \"a.c\"\npointers = \"big\"\nversion = 0\n",
+        "field server.version",
+    ),
     ("number = 1\nsource = \"a.c\"\n", "field server.name"),
     (
         "name = 1\nnumber = 1\nsource = \"a.c\"\n",
@@ -97,7 +105,7 @@ const SERVERS: [(&str, &str); 18] = [
         "field server.version",
     ),
     (
-        "name = \"a\"\nnumber = 1\nsource = \"a.c\"\npointers = \"wide\"\n",
+        "name = \"a\"\nnumber = 1\nsource = \"a.c\"\npointer = \"wide\"\n",
         "field server.?",
     ),
     (
@@ -178,7 +186,9 @@ const AFTER_SERVER: [(&str, &str); 22] = [
 ];
 
 // What follows a good update, and what each gives.
-const AFTER_UPDATE: [(&str, &str); 50] = [
+const AFTER_UPDATE: [(&str, &str); 52] = [
+    ("pointers = 8\n", "field update.pointers"),
+    ("pointers = \"Wide\"\nfilter = 1\n", "field update.pointers"),
     ("filter = 1\n", "field update.filter"),
     ("filter.x = 1\n", "field update.filter"),
     ("hold = 1\n", "field update.hold"),
@@ -370,8 +380,10 @@ fn defaults_stand_in(rt: HostRuntime) -> Result<(), PlanError> {
     for server in plan.server.as_slice() {
         assert_eq!(&rt; server.name.as_str(), "a");
         assert_eq!(&rt; server.version, 1);
+        assert_eq!(&rt; server.pointers, Pointers::Narrow);
     }
     for update in plan.update.as_slice() {
+        assert_eq!(&rt; update.pointers, Pointers::Narrow);
         assert_eq!(&rt; update.filter.as_str(), "1");
         assert_eq!(&rt; update.hold.as_slice().len(), 0);
         assert_eq!(&rt; update.tries, 16);

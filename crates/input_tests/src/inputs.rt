@@ -1,5 +1,5 @@
-use crate::generate;
 use lu_base::{Bytes8, CalmShelf, Shelf, ShelfFault};
+use lu_gen::generate;
 use std::alloc::Global;
 
 const PLAN: &str = r#"schedule = "s"

@@ -1,5 +1,5 @@
-use crate::{Event, Message, read_schedule};
 use plan_file::{Plan, read_plan};
+use sched_file::{Event, Message, read_schedule};
 use std::alloc::Global;
 use std::test::Fail;
 

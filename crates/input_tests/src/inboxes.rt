@@ -1,5 +1,5 @@
-use crate::{Hold, Inbox};
 use lu_base::{Memory, Message};
+use mk_queue::{Hold, Inbox};
 use std::alloc::Global;
 
 fn message(source: i32, kind: i32) -> Message {
