@@ -7,6 +7,7 @@ mod tests;
 mod top;
 
 use lu_base::{FileShelf, OutSink, Status};
+use std::io::ErrorKind;
 use std::process::ExitCode;
 use std::{env, io};
 use top::top;
@@ -19,10 +20,13 @@ fn main(rt: HostRuntime) -> io::Result<ExitCode> {
             &mut FileShelf::new(&rt),
             &mut OutSink::new(&rt),
         ),
+        // A word that is no text.
+        Err(fault) if fault.kind() == ErrorKind::InvalidData => Status::Usage,
         Err(_) => Status::Memory,
     };
     if let Some(text) = message(status) {
-        eprintln!(rt; "{text}")?;
+        // Where standard error can't be written, the status stands all the same.
+        let _ = eprintln!(rt; "{text}");
     }
     Ok(ExitCode::from(status.code()))
 }
@@ -39,7 +43,7 @@ fn words(rt: &HostRuntime) -> io::Result<Vec<String>> {
 // What goes to standard error.
 fn message(status: Status) -> Option<&'static str> {
     match status {
-        Status::Usage => Some("usage: lu_cli run|check|pair PLAN, or lu_cli gen N"),
+        Status::Usage => Some("usage: lu_cli run PLAN"),
         Status::ReadFault => Some("read fault"),
         Status::WriteFault => Some("write fault"),
         Status::Memory => Some("out of memory"),
