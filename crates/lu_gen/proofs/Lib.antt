@@ -1,1 +1,2 @@
+pub mod TextsAre
 pub mod Turns

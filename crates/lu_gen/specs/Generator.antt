@@ -1,7 +1,7 @@
 -- The files that a number stands for.
 use Rattle.std.specs.Prelude.{ℕ, zero, suc, ◌+◌, ◌*◌, ◌/◌, ◌%◌, ◌^◌, List, [], ◌∷◌, ◌++◌, codes}
 use Rattle.std.specs.Fmt.{decimal}
-use Rattle.lu_gen.specs.declared.texts.TheConstants.{PLAN, OLD_CELL, NEW_CELL, PROGRAM}
+use Rattle.lu_gen.specs.Texts.{plan_text, old_cell, new_cell, program}
 
 -- a linear congruential sequence
 abbrev pub next : ℕ → ℕ
@@ -33,4 +33,4 @@ schedule number = pairs 0 500 number ++ update_lines ++ pairs 500 500 (steps 500
 
 unfoldable pub generated_files : ℕ → List (List ℕ × List ℕ)
 generated_files number =
-    (codes "plan", PLAN.now) ∷ (codes "a.c", OLD_CELL.now ++ PROGRAM.now) ∷ (codes "b.c", NEW_CELL.now ++ PROGRAM.now) ∷ (codes "s", schedule number) ∷ []
+    (codes "plan", plan_text) ∷ (codes "a.c", old_cell ++ program) ∷ (codes "b.c", new_cell ++ program) ∷ (codes "s", schedule number) ∷ []

@@ -18,7 +18,7 @@ fn file(alloc: Global, name: &str, text: String) -> Result<(Name, Bytes8), Memor
 }
 
 /// A shelf with the files that the number stands for, and no other: `plan`, `a.c`, `b.c` and `s`.
-#[tactic(auto, unfolding(crate::specs::Generator::generated_files))]
+#[tactic(auto, using(crate::proofs::TextsAre::texts), unfolding(crate::specs::Generator::generated_files))]
 pub fn generate(alloc: Global, number: u32) -> Result<CalmShelf, Memory>
     ensures { IfOk result (λ shelf. shelf ≡ generated_files number) }
 {

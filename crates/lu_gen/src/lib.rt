@@ -3,7 +3,7 @@
 
 mod files;
 mod schedule;
-pub mod texts;
+mod texts;
 
 pub use files::generate;
 pub use lu_base::Memory;
