@@ -1,3 +1,4 @@
+pub mod BasicEvents
 pub mod BytesLemmas
 pub mod EventLemmas
 pub mod LineLemmas

@@ -6,8 +6,8 @@ use std::fmt;
 /// Why a text is no schedule of a plan.
 #[derive(Clone, Copy, Debug, PartialEq, Eq)]
 pub enum SchedError {
-    /// The line of that number, from 1, is the first that is no event, or names a server or an update that the plan hasn't.
-    Line { number: usize },
+    /// Line `n`, from 1, is the first that is no event, or names a server or an update that the plan hasn't.
+    Line { n: usize },
     /// The events pass 100,000 before such a line.
     Limit,
     /// An allocation was refused, which says nothing of the text.
@@ -50,7 +50,7 @@ impl From<Memory> for SchedError {
 impl fmt::Display for SchedError {
     fn fmt<W: fmt::Write>(&self, f: &mut fmt::Formatter<W>) -> fmt::Result {
         match self {
-            SchedError::Line { number } => write!(f, "line {number}"),
+            SchedError::Line { n } => write!(f, "line {n}"),
             SchedError::Limit => write!(f, "limit"),
             SchedError::Memory => write!(f, "out of memory"),
         }

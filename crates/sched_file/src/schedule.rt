@@ -1,6 +1,7 @@
-ghost use Rattle.std.specs.Prelude.{◌≡◌, ◌≤◌, ◌<◌, ◌++◌, ◌∷◌, [], length, Ok, Err, MatchResult};
+ghost use Rattle.std.specs.Prelude.{◌≡◌, ◌≤◌, ◌<◌, ◌++◌, ◌∷◌, [], length, Ok, Err, IfOk, MatchResult};
 ghost use Rattle.sched_file.specs.Commands.{line_of};
 ghost use Rattle.sched_file.specs.Schedule.{schedule_of, with_line, limited, round_of, rounds_of, IsRefusal};
+ghost use Rattle.sched_file.specs.Events.{AreBasic};
 
 use crate::bytes::split_at_byte;
 use crate::line::{Line, read_line};
@@ -9,11 +10,13 @@ use std::alloc::Global;
 
 const MAX_EVENTS: usize = 100_000;
 
-/// The basic events of a schedule for a plan: `Boot` and `Finish` aren't among them, and each `drain` stands for its runs.
+/// The basic events of a schedule for a plan: each server and update is in the plan, `Boot` and `Finish` aren't among them,
+/// and each `drain` stands for its runs.
 pub fn read_schedule(alloc: Global, text: &[u8], plan: &Plan) -> Result<Vec<Event>, SchedError>
     requires { length plan.now.update ≤ 64 }
-    ensures { MatchResult result (λ events. schedule_of plan.now text.now ≡ Ok events.items)
+    ensures answer { MatchResult result (λ events. schedule_of plan.now text.now ≡ Ok events.items)
         (IsRefusal (schedule_of plan.now text.now)) }
+    ensures basic { IfOk result (λ events. AreBasic plan.now events.items) }
 {
     let mut events = Vec::new(alloc);
     let mut number = 1;
@@ -47,7 +50,7 @@ fn push_line(
         (IsRefusal (with_line (length plan.now.server) number events.old.items (line_of plan.now line.now))) }
 {
     match read_line(plan, line) {
-        None => Err(SchedError::Line { number }),
+        None => Err(SchedError::Line { n: number }),
         Some(Line::Empty) => Ok(()),
         Some(Line::Basic(event)) => push_event(events, event),
         Some(Line::Drain(rounds)) => push_rounds(events, plan.server.as_slice().len(), rounds),

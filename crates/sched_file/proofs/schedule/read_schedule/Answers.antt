@@ -2,6 +2,7 @@ use Rattle.std.proofs.Common.{◌+◌, [], length, sym, ◌∙◌, ap, arith}
 use Rattle.sched_file.specs.Commands.{line_of}
 use Rattle.sched_file.specs.Schedule.{events_from, lines_of}
 use Rattle.sched_file.proofs.EventLemmas.{events_from-next, events_from-refused, events_from-end, schedule_of-start, with_line-few}
+use Rattle.sched_file.proofs.BasicEvents.{schedule-basic}
 use Rattle.sched_file.proofs.LineLemmas.{lines-found, lines-single, rest-shorter}
 use Rattle.sched_file.proofs.schedule.read_schedule.Goals as goal
 
@@ -28,24 +29,27 @@ loop-line-preserved c =
           ∙ c.loop-line.invariant.same;
     }
 
-pub returns-in-Err : goal.returns-in-Err
-returns-in-Err c not_memory =
+pub returns-in-Err-clause-answer : goal.returns-in-Err-clause-answer
+returns-in-Err-clause-answer c not_memory =
     let plan = c.args.plan.now in
     sym c.loop-line.invariant.same
     ∙ ap (λ ls. events_from plan c.loop-line.number c.loop-line.events.items ls) (lines-found c.loop-line.rest.now c.in-Some.line.now c.in-Some.after.now c.in-Some.ensures)
     ∙ events_from-refused plan c.loop-line.number c.loop-line.events.items c.in-Some.line.now (lines_of c.in-Some.after.now) c.in-Err.refusal c.in-Err.ensures not_memory
 
-pub returns-in-Ok-push_line : goal.returns-in-Ok-push_line
-returns-in-Ok-push_line c =
+pub returns-in-Ok-push_line-clause-answer : goal.returns-in-Ok-push_line-clause-answer
+returns-in-Ok-push_line-clause-answer c =
     let plan = c.args.plan.now in
     sym c.loop-line.invariant.same
     ∙ ap (λ ls. events_from plan c.loop-line.number c.loop-line.events.items ls) (lines-single c.loop-line.rest.now c.in_default.ensures)
     ∙ sym (events_from-next plan c.loop-line.number c.loop-line.events.items c.push_line-2.new.events.items c.loop-line.rest.now [] c.in-Ok-push_line.ensures)
     ∙ events_from-end plan (c.loop-line.number + 1) c.push_line-2.new.events.items
 
-pub returns-in-Err-push_line : goal.returns-in-Err-push_line
-returns-in-Err-push_line c not_memory =
+pub returns-in-Err-push_line-clause-answer : goal.returns-in-Err-push_line-clause-answer
+returns-in-Err-push_line-clause-answer c not_memory =
     let plan = c.args.plan.now in
     sym c.loop-line.invariant.same
     ∙ ap (λ ls. events_from plan c.loop-line.number c.loop-line.events.items ls) (lines-single c.loop-line.rest.now c.in_default.ensures)
     ∙ events_from-refused plan c.loop-line.number c.loop-line.events.items c.loop-line.rest.now [] c.in-Err-push_line.refusal c.in-Err-push_line.ensures not_memory
+
+pub returns-in-Ok-push_line-clause-basic : goal.returns-in-Ok-push_line-clause-basic
+returns-in-Ok-push_line-clause-basic c = schedule-basic c.args.plan.now c.args.text.now c.push_line-2.new.events.items (returns-in-Ok-push_line-clause-answer c)
