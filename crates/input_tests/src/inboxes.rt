@@ -1,4 +1,4 @@
-use lu_base::{Memory, Message};
+use lu_base::{Memory, Message, Sequence};
 use mk_queue::{Hold, Inbox};
 use std::alloc::Global;
 
@@ -24,7 +24,7 @@ fn holds_back_by_kind_and_source(rt: HostRuntime) -> Result<(), Memory> {
     let kinds = vec![in alloc; 1]?;
     let hold = Hold {
         active: true,
-        kinds,
+        kinds: Sequence::from_vec(kinds),
     };
     let mut inbox = filled(alloc)?;
     assert_eq!(&rt; inbox.next(&hold), Some(1));
@@ -42,7 +42,7 @@ fn holds_nothing_back_while_inactive(rt: HostRuntime) -> Result<(), Memory> {
     let kinds = vec![in alloc; 1]?;
     let hold = Hold {
         active: false,
-        kinds,
+        kinds: Sequence::from_vec(kinds),
     };
     let mut inbox = filled(alloc)?;
     for wanted in [message(100, 1), message(101, 9), message(100, 9)] {

@@ -1,8 +1,8 @@
 //! Inboxes.
 
-ghost use Rattle.std.specs.Prelude.{◌≡◌, ◌≢◌, ◌==◌, ◌<◌, ℕ, [], ◌∷◌, ◌++◌, length, remove, slice_get, true, false, Some, None, OnOk, OnErr, IfSome};
+ghost use Rattle.std.specs.Prelude.{◌≡◌, ◌≢◌, ◌==◌, ◌<◌, ℕ, [], ◌∷◌, ◌++◌, length, remove, slice_get, true, false, Some, None, OnOk, OnErr};
 ghost use Rattle.mk_queue.specs.Held as held;
-ghost use Rattle.mk_queue.specs.Held.{IsNext, IsHeldBack, AreHeldBack};
+ghost use Rattle.mk_queue.specs.Held.{IsHeldBack};
 
 use crate::hold::{Hold, is_held_kind};
 use lu_base::{Memory, Message};
@@ -76,8 +76,7 @@ impl Inbox {
 
     /// The place of the first message that isn't held back, if there is one. It takes no memory.
     pub fn next(&self, hold: &Hold) -> Option<usize>
-        ensures next { IfSome result (IsNext hold.now self.now) }
-        ensures none { result ≡ None → AreHeldBack hold.now self.now (length self.now) }
+        ensures { result ≡ held.next_message hold.now self.now }
     {
         for i in 0..self.messages.len() {
             if !is_held_back(hold, &self.messages, i) {
