@@ -3,19 +3,19 @@ use Rattle.std.proofs.Common.{◌≡◌, refl}
 use Rattle.lu_gen.specs.declared.texts.TheConstants.{PLAN, OLD_CELL, NEW_CELL, PROGRAM}
 use Rattle.lu_gen.specs.Texts.{plan_text, old_cell, new_cell, program}
 
-plan-is : PLAN.now ≡ plan_text
+pub plan-is : PLAN.now ≡ plan_text
 unfolding plan_text
 plan-is = refl
 
-old-is : OLD_CELL.now ≡ old_cell
+pub old-is : OLD_CELL.now ≡ old_cell
 unfolding old_cell
 old-is = refl
 
-new-is : NEW_CELL.now ≡ new_cell
+pub new-is : NEW_CELL.now ≡ new_cell
 unfolding new_cell
 new-is = refl
 
-program-is : PROGRAM.now ≡ program
+pub program-is : PROGRAM.now ≡ program
 unfolding program
 program-is = refl
 
