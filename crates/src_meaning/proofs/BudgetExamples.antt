@@ -8,6 +8,7 @@ use Rattle.std.proofs.lemmas.Bool.Decides.{nat_tests}
 use Rattle.lu_base.specs.declared.message.Message.{Message}
 use Rattle.lu_base.specs.declared.trap.Trap.TheVariants as X
 use Rattle.c_types.specs.declared.parts.IntKind.TheVariants as K
+use Rattle.lu_base.specs.declared.limits.TheConstants.{CALL_TICKS}
 use Rattle.src_tree.specs.declared.value.Value as V1
 use Rattle.src_tree.specs.declared.value.Value.TheBlock as V
 use Rattle.src_tree.specs.declared.value.Store.{Store}
@@ -21,7 +22,7 @@ use Rattle.src_tree.specs.declared.program.Program.{Program}
 use Rattle.src_meaning.specs.Integers.{wrapped}
 use Rattle.src_meaning.specs.Objects.{Gives}
 use Rattle.src_meaning.specs.Operators.{is_true}
-use Rattle.src_meaning.specs.Call.{State, Ending, Returned, Outcome, Trapped, Goes_on, Leaves, Context, with_gives, branch, after_turn, go_on, tick, test_in, turns, run_statement, run_body, fall_off, context_of, call_with, call, delivery_ticks}
+use Rattle.src_meaning.specs.Call.{State, Ending, Returned, Outcome, Trapped, Goes_on, Leaves, Context, with_gives, branch, after_turn, go_on, tick, test_in, turns, run_statement, run_body, fall_off, context_of, call_with, call}
 use Rattle.src_meaning.specs.Delivery.{ended, delivered, function_named, with_message, with_no_messages, run_named, deliver}
 use Rattle.src_meaning.specs.Initial.{initial_store}
 use Rattle.src_meaning.proofs.Sample.{parts, program, function, world, client, num, local, two, set_local, seen_of, seen, sends, trap, on_message_name}
@@ -148,13 +149,13 @@ counting_traps n t store small less =
     ap (λ o. fall_off parts None (go_on o (run_body [] x))) (turns_trap n small store f (suc (suc t)) n 0 t (suc (suc t)) (omega arith) less (omega arith))
 
 -- what a delivery shows, by the end of its call
-trapped_delivery : (p : Program) (store started : Store) (m : Message) (f k : ℕ) → with_message store m ≡ Ok started → function_named p on_message_name ≡ Some f → k ≡ delivery_ticks → call p world started f [] k ≡ Trapped X.Budget 0 → seen_of (deliver p world store m) ≡ trap X.Budget 1000000
+trapped_delivery : (p : Program) (store started : Store) (m : Message) (f k : ℕ) → with_message store m ≡ Ok started → function_named p on_message_name ≡ Some f → k ≡ CALL_TICKS → call p world started f [] k ≡ Trapped X.Budget 0 → seen_of (deliver p world store m) ≡ trap X.Budget 1000000
 trapped_delivery p store started m f k e g h r =
     ap (λ s. seen_of (run_named p world on_message_name s (function_named p on_message_name))) e
     ∙ ap (λ o. seen_of (run_named p world on_message_name (Ok started) o)) g
     ∙ ap (λ x. seen_of (delivered x)) (ap (call p world started f []) (sym h) ∙ r)
 
-ended_delivery : (p : Program) (store started left : Store) (m : Message) (f k : ℕ) → with_message store m ≡ Ok started → function_named p on_message_name ≡ Some f → k ≡ delivery_ticks → call p world started f [] k ≡ Returned None started [] 0 → with_no_messages started ≡ Ok left → seen_of (deliver p world store m) ≡ sends [] 1000000
+ended_delivery : (p : Program) (store started left : Store) (m : Message) (f k : ℕ) → with_message store m ≡ Ok started → function_named p on_message_name ≡ Some f → k ≡ CALL_TICKS → call p world started f [] k ≡ Returned None started [] 0 → with_no_messages started ≡ Ok left → seen_of (deliver p world store m) ≡ sends [] 1000000
 ended_delivery p store started left m f k e g h r w =
     ap (λ s. seen_of (run_named p world on_message_name s (function_named p on_message_name))) e
     ∙ ap (λ o. seen_of (run_named p world on_message_name (Ok started) o)) g

@@ -2,6 +2,7 @@
 -- than it had.
 use Rattle.std.proofs.Common.{ℕ, zero, suc, ◌<◌, ◌≤◌, Bool, true, false, ℤ, pos, List, [], ◌∷◌, Option, Some, None, Ok, Err, arith}
 use Rattle.std.specs.Prelude.{slice_get, nat_lt}
+use Rattle.lu_base.specs.declared.limits.TheConstants.{FRAMES}
 use Rattle.src_tree.specs.declared.value.Value.{Value, Int, Null, Pointer, Function}
 use Rattle.src_tree.specs.declared.expr.TypedExpr.{TypedExpr}
 use Rattle.src_tree.specs.declared.expr.TypedPlace.{TypedPlace}
@@ -17,8 +18,10 @@ use Rattle.lu_base.specs.declared.trap.Trap.TheVariants.{BadCode}
 use Rattle.src_meaning.specs.Objects.{Gives, or_trap, value_at, allocated, freed}
 use Rattle.src_meaning.specs.Operators.{converted}
 use Rattle.src_meaning.specs.Assignment.{assigned}
-use Rattle.src_meaning.specs.Sending.{World, m_out, message_of, sent}
-use Rattle.src_meaning.specs.Call.{State, Ending, Returned, Trapped, Starved, Outcome, Goes_on, Breaks, Continues, Leaves, Callee, Context, with_gives, go_on, tick_at, tick, branch, test_in, test_of, resume, call_pointer, allocate, perform, call_of, rhs_in, declare, return_of, assign, after_turn, turns, run_statement, run_row, run_body, fall_off, with_store, value_in, values_in, only_value, only_int, zero_local, scope_of, context_of, entry_locals, enter, with_frame, call_with, greatest_depth}
+use Rattle.lu_base.specs.declared.world.World.{World}
+use Rattle.lu_base.specs.Sending.{sent}
+use Rattle.src_meaning.specs.Sending.{m_out, message_of}
+use Rattle.src_meaning.specs.Call.{State, Ending, Returned, Trapped, Starved, Outcome, Goes_on, Breaks, Continues, Leaves, Callee, Context, with_gives, go_on, tick_at, tick, branch, test_in, test_of, resume, call_pointer, allocate, perform, call_of, rhs_in, declare, return_of, assign, after_turn, turns, run_statement, run_row, run_body, fall_off, with_store, value_in, values_in, only_value, only_int, zero_local, scope_of, context_of, entry_locals, enter, with_frame, call_with}
 
 -- the end came before the fuel's, with no more than b ticks left
 abbrev pub IsWithin : ℕ → Ending → Type 0
@@ -185,7 +188,7 @@ frame_within b false f s le h = le
 pub call_with_within : (p : Program) (world : World) (n depth f : ℕ) (vs : List Value) (s : State) → s.ticks < n → IsWithin s.ticks (call_with p world n depth f vs s)
 call_with_within p world zero depth f vs s lt = absurd (omega arith)
 call_with_within p world (suc n) depth f vs s lt =
-    frame_within s.ticks (nat_lt depth greatest_depth) _ s (omega arith) (entered (slice_get p.functions f) (call_with_within p world n (suc depth)))
+    frame_within s.ticks (nat_lt depth FRAMES) _ s (omega arith) (entered (slice_get p.functions f) (call_with_within p world n (suc depth)))
   where
     entered : (o : Option F.Function) → ((f : ℕ) (vs : List Value) (s : State) → s.ticks < n → IsWithin s.ticks (call_with p world n (suc depth) f vs s)) → IsWithin s.ticks (enter p world (call_with p world n (suc depth)) (suc n) o vs s)
     entered None h = omega arith

@@ -2,6 +2,7 @@
 use Rattle.std.proofs.Common.{◌≡◌, ◌∙◌, refl, ap, ℕ, zero, suc, ◌<◌, ◌≤◌, Bool, true, false, List, [], ◌∷◌, Option, Some, None, Ok, Err, arith}
 use Rattle.std.specs.Prelude.{slice_get, nat_lt}
 use Rattle.lu_spec.specs.Then.{then_do}
+use Rattle.lu_base.specs.declared.limits.TheConstants.{FRAMES}
 use Rattle.src_tree.specs.declared.value.Value.{Value, Int, Null, Pointer, Function}
 use Rattle.src_tree.specs.declared.expr.TypedExpr.{TypedExpr}
 use Rattle.src_tree.specs.declared.stmt.Callee as Text
@@ -12,8 +13,8 @@ use Rattle.src_tree.specs.declared.stmt.TypedStmt.{TypedStmt, Block', Empty, Dec
 use Rattle.src_tree.specs.declared.program.Function as F
 use Rattle.src_tree.specs.declared.program.Program.{Program}
 use Rattle.src_meaning.specs.Objects.{Gives}
-use Rattle.src_meaning.specs.Sending.{World}
-use Rattle.src_meaning.specs.Call.{State, Ending, Outcome, Goes_on, Breaks, Continues, Leaves, Callee, Context, with_gives, go_on, tick_at, tick, branch, test_in, test_of, value_in, values_in, resume, call_pointer, perform, call_of, rhs_in, declare, return_of, after_turn, turns, run_statement, run_row, run_body, fall_off, types_of, entry_locals, enter, with_frame, call_with, greatest_depth}
+use Rattle.lu_base.specs.declared.world.World.{World}
+use Rattle.src_meaning.specs.Call.{State, Ending, Outcome, Goes_on, Breaks, Continues, Leaves, Callee, Context, with_gives, go_on, tick_at, tick, branch, test_in, test_of, value_in, values_in, resume, call_pointer, perform, call_of, rhs_in, declare, return_of, after_turn, turns, run_statement, run_row, run_body, fall_off, types_of, entry_locals, enter, with_frame, call_with}
 use Rattle.src_meaning.proofs.Fuel.{Within, Spends, Keeps, statement_within, row_within, call_with_within}
 
 -- two callees that end alike as long as no more than b ticks are left
@@ -160,7 +161,7 @@ pub call_with-same : (p : Program) (world : World) (n m depth f : ℕ) (vs : Lis
 call_with-same p world zero m depth f vs s ln lm = absurd (omega arith)
 call_with-same p world (suc n) zero depth f vs s ln lm = absurd (omega arith)
 call_with-same p world (suc n) (suc m) depth f vs s ln lm =
-    frame_same (nat_lt depth greatest_depth) _ _ s (entered (slice_get p.functions f) (call_with-same p world n m (suc depth)))
+    frame_same (nat_lt depth FRAMES) _ _ s (entered (slice_get p.functions f) (call_with-same p world n m (suc depth)))
   where
     entered : (o : Option F.Function) → ((f : ℕ) (vs : List Value) (s : State) → s.ticks < n → s.ticks < m → call_with p world n (suc depth) f vs s ≡ call_with p world m (suc depth) f vs s) → enter p world (call_with p world n (suc depth)) (suc n) o vs s ≡ enter p world (call_with p world m (suc depth)) (suc m) o vs s
     entered None same = refl

@@ -19,7 +19,9 @@ use Rattle.src_tree.specs.declared.program.Function.{Function}
 use Rattle.src_tree.specs.declared.program.Program.{Program}
 use Rattle.lu_base.specs.declared.message.Message.{Message}
 use Rattle.lu_base.specs.declared.trap.Trap.{Trap}
-use Rattle.src_meaning.specs.Sending.{World, Sent, zero_message}
+use Rattle.lu_base.specs.declared.world.World.{World}
+use Rattle.lu_base.specs.Sending.{Sent}
+use Rattle.src_meaning.specs.Sending.{zero_message}
 use Rattle.src_meaning.specs.Delivery.{Delivered, Ends, Dies, deliver}
 use Rattle.src_meaning.specs.Initial.{initial_store}
 

@@ -9,7 +9,7 @@ use Rattle.src_tree.specs.declared.expr.LogicalOperator.{LogicalOperator}
 use Rattle.src_tree.specs.declared.expr.ExprKind.{Load, AddressOf, Decay, Cast, Convert, Unary, Binary, Logical, Conditional}
 use Rattle.src_tree.specs.declared.expr.PlaceKind.{Deref, Arrow, Item, Element, Field, Member}
 use Rattle.src_tree.specs.declared.expr.ExprKind.TheBlock as E
-use Rattle.src_meaning.specs.ValidDepth.{keeps_bounds, place_keeps_bounds, has_link, binary_rank, logical_rank, postfix_rank, operand_spot, chain_spot, right_spot, index_spot, condition_spot, branch_spot, arrow_spot}
+use Rattle.src_meaning.specs.ValidDepth.{keeps_bounds, place_keeps_bounds, binary_rank, logical_rank, postfix_rank, operand_spot, chain_spot, right_spot, index_spot, condition_spot, branch_spot, arrow_spot}
 
 module _ (s : Spot) where
   pub bounds-Load : (e : TypedPlace) → keeps_bounds s (Load e) ≡ place_keeps_bounds s e.kind
@@ -36,11 +36,11 @@ module _ (s : Spot) where
   unfolding E.shape-the_row-TypedExpr-1 E.hidden-the_row-TypedExpr-1 E.shape-the_row-TypedPlace-0 E.hidden-the_row-TypedPlace-0 denote.Hole.Carrier.hidden
   bounds-Unary op e = refl
 
-  pub bounds-Binary : (op : BinaryOperator) (a b : TypedExpr) → keeps_bounds s (Binary op a b) ≡ has_link (binary_rank op) s && (keeps_bounds (chain_spot (binary_rank op) s) a.kind && keeps_bounds (right_spot (binary_rank op) s) b.kind)
+  pub bounds-Binary : (op : BinaryOperator) (a b : TypedExpr) → keeps_bounds s (Binary op a b) ≡ keeps_bounds (chain_spot (binary_rank op) s) a.kind && keeps_bounds (right_spot (binary_rank op) s) b.kind
   unfolding E.shape-the_row-TypedExpr-1 E.hidden-the_row-TypedExpr-1 E.shape-the_row-TypedPlace-0 E.hidden-the_row-TypedPlace-0 denote.Hole.Carrier.hidden
   bounds-Binary op a b = refl
 
-  pub bounds-Logical : (op : LogicalOperator) (a b : TypedExpr) → keeps_bounds s (Logical op a b) ≡ has_link (logical_rank op) s && (keeps_bounds (chain_spot (logical_rank op) s) a.kind && keeps_bounds (right_spot (logical_rank op) s) b.kind)
+  pub bounds-Logical : (op : LogicalOperator) (a b : TypedExpr) → keeps_bounds s (Logical op a b) ≡ keeps_bounds (chain_spot (logical_rank op) s) a.kind && keeps_bounds (right_spot (logical_rank op) s) b.kind
   unfolding E.shape-the_row-TypedExpr-1 E.hidden-the_row-TypedExpr-1 E.shape-the_row-TypedPlace-0 E.hidden-the_row-TypedPlace-0 denote.Hole.Carrier.hidden
   bounds-Logical op a b = refl
 
@@ -56,19 +56,19 @@ module _ (s : Spot) where
   unfolding E.shape-the_row-TypedExpr-1 E.hidden-the_row-TypedExpr-1 E.shape-the_row-TypedPlace-0 E.hidden-the_row-TypedPlace-0 denote.Hole.Carrier.hidden
   bounds-Arrow e = refl
 
-  pub bounds-Item : (p i : TypedExpr) → place_keeps_bounds s (Item p i) ≡ has_link postfix_rank s && (keeps_bounds (chain_spot postfix_rank s) p.kind && keeps_bounds (index_spot s) i.kind)
+  pub bounds-Item : (p i : TypedExpr) → place_keeps_bounds s (Item p i) ≡ keeps_bounds (chain_spot postfix_rank s) p.kind && keeps_bounds (index_spot s) i.kind
   unfolding E.shape-the_row-TypedExpr-1 E.hidden-the_row-TypedExpr-1 E.shape-the_row-TypedPlace-0 E.hidden-the_row-TypedPlace-0 denote.Hole.Carrier.hidden
   bounds-Item p i = refl
 
-  pub bounds-Element : (a : TypedPlace) (i : TypedExpr) → place_keeps_bounds s (Element a i) ≡ has_link postfix_rank s && (place_keeps_bounds (chain_spot postfix_rank s) a.kind && keeps_bounds (index_spot s) i.kind)
+  pub bounds-Element : (a : TypedPlace) (i : TypedExpr) → place_keeps_bounds s (Element a i) ≡ place_keeps_bounds (chain_spot postfix_rank s) a.kind && keeps_bounds (index_spot s) i.kind
   unfolding E.shape-the_row-TypedExpr-1 E.hidden-the_row-TypedExpr-1 E.shape-the_row-TypedPlace-0 E.hidden-the_row-TypedPlace-0 denote.Hole.Carrier.hidden
   bounds-Element a i = refl
 
-  pub bounds-Field : (e : TypedPlace) (k : ℕ) → place_keeps_bounds s (Field e k) ≡ has_link postfix_rank s && place_keeps_bounds (chain_spot postfix_rank s) e.kind
+  pub bounds-Field : (e : TypedPlace) (k : ℕ) → place_keeps_bounds s (Field e k) ≡ place_keeps_bounds (chain_spot postfix_rank s) e.kind
   unfolding E.shape-the_row-TypedExpr-1 E.hidden-the_row-TypedExpr-1 E.shape-the_row-TypedPlace-0 E.hidden-the_row-TypedPlace-0 denote.Hole.Carrier.hidden
   bounds-Field e k = refl
 
-  pub bounds-Member : (e : TypedPlace) (k : ℕ) → place_keeps_bounds s (Member e k) ≡ has_link postfix_rank s && place_keeps_bounds (chain_spot postfix_rank s) e.kind
+  pub bounds-Member : (e : TypedPlace) (k : ℕ) → place_keeps_bounds s (Member e k) ≡ place_keeps_bounds (chain_spot postfix_rank s) e.kind
   unfolding E.shape-the_row-TypedExpr-1 E.hidden-the_row-TypedExpr-1 E.shape-the_row-TypedPlace-0 E.hidden-the_row-TypedPlace-0 denote.Hole.Carrier.hidden
   bounds-Member e k = refl
 

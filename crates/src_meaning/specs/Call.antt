@@ -2,6 +2,9 @@
 use Rattle.std.specs.Prelude.{ℕ, zero, suc, Bool, true, false, nat_lt, ℤ, pos, List, [], ◌∷◌, ◌++◌, map, Option, Some, None, Ok, Err, slice_get, slice_set}
 use Rattle.std.specs.Option.{option_map}
 use Rattle.lu_spec.specs.Then.{then_do}
+use Rattle.lu_base.specs.declared.world.World.{World}
+use Rattle.lu_base.specs.declared.limits.TheConstants.{FRAMES}
+use Rattle.lu_base.specs.Sending.{Sent, sent}
 use Rattle.lu_base.specs.declared.trap.Trap.{Trap}
 use Rattle.lu_base.specs.declared.trap.Trap.TheVariants.{BadCode, BadCall, Depth, Budget, Panic}
 use Rattle.c_types.specs.declared.parts.Parts.{Parts}
@@ -22,7 +25,7 @@ use Rattle.src_meaning.specs.Objects.{Gives, or_trap, value_at, allocated, freed
 use Rattle.src_meaning.specs.Operators.{int_of, is_true, converted}
 use Rattle.src_meaning.specs.Expression.{Scope, value_of}
 use Rattle.src_meaning.specs.Assignment.{assigned}
-use Rattle.src_meaning.specs.Sending.{World, Sent, m_out, message_of, sent}
+use Rattle.src_meaning.specs.Sending.{m_out, message_of}
 
 -- the store, the parameters and locals, the sends so far, and the ticks that are left
 pub record State : Type 0 where
@@ -57,13 +60,6 @@ pub record Context : Type 0 where
   pub local_types : List ℕ
   pub call : Callee
   pub fuel : ℕ
-
--- the frames of a process, and the ticks of a delivery
-abbrev pub greatest_depth : ℕ
-greatest_depth = 128
-
-abbrev pub delivery_ticks : ℕ
-delivery_ticks = 1000000
 
 abbrev pub scope_of : Context → State → Scope
 scope_of c s = record { types = c.program.types; store = s.store; locals = s.locals }
@@ -251,7 +247,7 @@ enter p world call fuel None args s = Trapped BadCode s.ticks
 enter p world call fuel (Some f) args s =
     fall_off p.types f.ret (tick (record s { locals = entry_locals p.types f args }) (run_body f.body (context_of p world f call fuel)))
 
--- the frame of a call, unless there are 128 before it
+-- the frame of a call, unless there are as many before it as there may be
 abbrev pub with_frame : Bool → (State → Ending) → State → Ending
 with_frame true f s = f s
 with_frame false f s = Trapped Depth s.ticks
@@ -260,7 +256,7 @@ with_frame false f s = Trapped Depth s.ticks
 abbrev pub call_with : Program → World → ℕ → ℕ → Callee
 call_with p world zero depth f args s = Starved
 call_with p world (suc n) depth f args s =
-    with_frame (nat_lt depth greatest_depth) (enter p world (call_with p world n (suc depth)) (suc n) (slice_get p.functions f) args) s
+    with_frame (nat_lt depth FRAMES) (enter p world (call_with p world n (suc depth)) (suc n) (slice_get p.functions f) args) s
 
 -- a call from outside, with so many ticks
 abbrev pub call : Program → World → Store → ℕ → List Value → ℕ → Ending

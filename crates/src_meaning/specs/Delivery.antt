@@ -3,14 +3,17 @@ use Rattle.std.specs.Prelude.{ℕ, suc, ◌-◌, Bool, true, false, ◌&&◌, na
 use Rattle.std.specs.Option.{option_map}
 use Rattle.lu_spec.specs.Then.{then_do}
 use Rattle.lu_base.specs.declared.message.Message.{Message}
+use Rattle.lu_base.specs.declared.world.World.{World}
+use Rattle.lu_base.specs.declared.limits.TheConstants.{CALL_TICKS}
+use Rattle.lu_base.specs.Sending.{Sent}
 use Rattle.lu_base.specs.declared.trap.Trap.{Trap}
 use Rattle.lu_base.specs.declared.trap.Trap.TheVariants.{BadCode}
 use Rattle.src_tree.specs.declared.value.Store.{Store}
 use Rattle.src_tree.specs.declared.program.Function.{Function}
 use Rattle.src_tree.specs.declared.program.Program.{Program}
 use Rattle.src_meaning.specs.Objects.{Gives, store_with}
-use Rattle.src_meaning.specs.Sending.{World, Sent, m_in, m_out, zero_message, message_value}
-use Rattle.src_meaning.specs.Call.{Ending, Returned, Trapped, Starved, call, delivery_ticks}
+use Rattle.src_meaning.specs.Sending.{m_in, m_out, zero_message, message_value}
+use Rattle.src_meaning.specs.Call.{Ending, Returned, Trapped, Starved, call}
 use Rattle.src_meaning.specs.Initial.{initial_store}
 
 abbrev pub same_bytes : List ℕ → List ℕ → Bool
@@ -49,12 +52,12 @@ ended used sends (Err t) = Dies t used
 
 -- Starved never comes, since the fuel is above the ticks
 abbrev pub delivered : Ending → Delivered
-delivered (Returned result store sends left) = ended (delivery_ticks - left) sends (with_no_messages store)
-delivered (Trapped trap left) = Dies trap (delivery_ticks - left)
+delivered (Returned result store sends left) = ended (CALL_TICKS - left) sends (with_no_messages store)
+delivered (Trapped trap left) = Dies trap (CALL_TICKS - left)
 delivered Starved = Dies BadCode 0
 
 abbrev pub run_named : Program → World → List ℕ → Gives Store → Option ℕ → Delivered
-run_named p world name (Ok store) (Some f) = delivered (call p world store f [] delivery_ticks)
+run_named p world name (Ok store) (Some f) = delivered (call p world store f [] CALL_TICKS)
 run_named p world name _ _ = Dies BadCode 0
 
 -- a message arrives: `on_message` runs with it in `m_in`

@@ -1,12 +1,13 @@
 -- Objects of a store: their sizes and addresses in bytes, what stands at a place, allocation and free.
-use Rattle.std.specs.Prelude.{ℕ, zero, suc, ◌+◌, ◌*◌, Bool, true, false, ◌&&◌, not, nat_le, if◌then◌else◌, ℤ, pos, negsuc, List, [], ◌∷◌, ◌++◌, length, replicate, Option, Some, None, Result, Ok, Err, slice_get, slice_set}
+use Rattle.std.specs.Prelude.{ℕ, zero, suc, ◌+◌, ◌*◌, Bool, true, false, ◌&&◌, not, if◌then◌else◌, ℤ, pos, negsuc, List, [], ◌∷◌, ◌++◌, length, map, replicate, Option, Some, None, Result, Ok, Err, slice_get, slice_set}
 use Rattle.std.specs.Option.{option_map}
 use Rattle.lu_spec.specs.Then.{then_option, then_do}
+use Rattle.lu_base.specs.Addresses as by_size
 use Rattle.lu_base.specs.declared.trap.Trap.{Trap}
 use Rattle.lu_base.specs.declared.trap.Trap.TheVariants.{BadPointer, BadFree, BadCode}
 use Rattle.c_types.specs.declared.parts.Parts.{Parts}
 use Rattle.c_types.specs.declared.path.Step.{Step}
-use Rattle.c_types.specs.Layout.{size_of, next_multiple}
+use Rattle.c_types.specs.Layout.{size_of}
 use Rattle.c_types.specs.Place.{object_place}
 use Rattle.c_types.specs.Descent.{find_place}
 use Rattle.src_tree.specs.declared.value.Value.{Value, Null, Pointer}
@@ -48,44 +49,24 @@ is_global _ = false
 abbrev pub is_live_heap : Object → Bool
 is_live_heap o = is_live o && not (is_global o.kind)
 
--- the first address
-abbrev pub base_address : ℕ
-base_address = 4096
-
--- the address after an object: past its end and 16 more, at a multiple of 16
-abbrev pub address_after : Parts → ℕ → Object → ℕ
-address_after p address o = next_multiple (address + object_size p o + 16) 16
-
-abbrev pub addresses_from : Parts → ℕ → List Object → List ℕ
-addresses_from p address [] = []
-addresses_from p address (o ∷ os) = address ∷ addresses_from p (address_after p address o) os
+abbrev pub sizes_of : Parts → Store → List ℕ
+sizes_of p store = map (object_size p) store.objects
 
 -- the address of each object, in order
 abbrev pub addresses : Parts → Store → List ℕ
-addresses p store = addresses_from p base_address store.objects
-
-abbrev pub end_of : Parts → ℕ → List Object → ℕ
-end_of p address [] = address
-end_of p address (o ∷ os) = end_of p (address_after p address o) os
+addresses p store = by_size.addresses_of (sizes_of p store)
 
 -- the address that the next object would have
 abbrev pub next_address : Parts → Store → ℕ
-next_address p store = end_of p base_address store.objects
+next_address p store = by_size.next_address (sizes_of p store)
 
 abbrev pub heap_sizes : Parts → List Object → ℕ
 heap_sizes p [] = 0
-heap_sizes p (o ∷ os) = (if is_live_heap o then object_size p o else 0) + heap_sizes p os
+heap_sizes p (o ∷ os) = by_size.heap_part (is_live_heap o) (object_size p o) + heap_sizes p os
 
 -- the bytes of all live heap objects
 abbrev pub heap_bytes : Parts → Store → ℕ
 heap_bytes p store = heap_sizes p store.objects
-
-abbrev pub greatest_heap : ℕ
-greatest_heap = 4194304
-
--- no next address is above this
-abbrev pub last_address : ℕ
-last_address = 4026531840
 
 abbrev pub live_elements : Store → ℕ → Option (List Value)
 live_elements store o = then_option (slice_get store.objects o) (λ x. x.elements)
@@ -135,8 +116,7 @@ zero_object p kind elem count = record {
 
 -- whether an object has room: in the heap, and before the last address
 abbrev pub has_room : Parts → Store → Object → Bool
-has_room p store x =
-    nat_le (heap_bytes p store + object_size p x) greatest_heap && nat_le (address_after p (next_address p store) x) last_address
+has_room p store x = by_size.has_room (heap_bytes p store) (next_address p store) (object_size p x)
 
 abbrev pub append_object : Store → Object → Store
 append_object store x = record { objects = store.objects ++ x ∷ [] }

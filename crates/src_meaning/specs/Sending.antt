@@ -1,5 +1,5 @@
--- Messages as values, and what `send` does.
-use Rattle.std.specs.Prelude.{ℕ, Bool, false, ◌||◌, ◌&&◌, nat_eq, nat_lt, nat_le, if◌then◌else◌, ℤ, pos, negsuc, List, [], ◌∷◌, ◌++◌, length, map, Option, Some, None}
+-- Messages as values.
+use Rattle.std.specs.Prelude.{ℤ, pos, List, [], ◌∷◌, map, Option, Some, None}
 use Rattle.lu_spec.specs.Then.{then_option}
 use Rattle.lu_base.specs.declared.message.Message.{Message}
 use Rattle.lu_base.specs.declared.trap.Trap.TheVariants.{BadCode}
@@ -8,33 +8,6 @@ use Rattle.src_tree.specs.declared.value.Value.{Value, Int, Struct, Array, out-V
 use Rattle.src_tree.specs.declared.value.Value.TheOpen as V
 use Rattle.src_meaning.specs.Paths.{Layer}
 use Rattle.src_meaning.specs.Objects.{Gives, or_trap, Place, place}
-
--- the server's own number, and the numbers of all servers
-pub record World : Type 0 where
-  pub own : ℤ
-  pub servers : List ℤ
-
--- a message with its destination
-abbrev pub Sent : Type 0
-Sent = ℤ × Message
-
--- the sends of one delivery
-abbrev pub greatest_sends : ℕ
-greatest_sends = 16
-
-abbrev pub same_int : ℤ → ℤ → Bool
-same_int (pos a) (pos b) = nat_eq a b
-same_int (negsuc a) (negsuc b) = nat_eq a b
-same_int _ _ = false
-
-abbrev pub is_among : ℤ → List ℤ → Bool
-is_among z [] = false
-is_among z (x ∷ xs) = same_int z x || is_among z xs
-
--- clients have the numbers 100 to 999
-abbrev pub is_client : ℤ → Bool
-is_client (pos n) = nat_le 100 n && nat_le n 999
-is_client (negsuc n) = false
 
 abbrev pub zero_message : Message
 zero_message = record { source = pos 0; kind = pos 0; arg = pos 0 ∷ pos 0 ∷ pos 0 ∷ pos 0 ∷ pos 0 ∷ pos 0 ∷ [] }
@@ -67,11 +40,3 @@ m_in = place 0 (Index 0 ∷ [])
 
 abbrev pub m_out : Place
 m_out = place 1 (Index 0 ∷ [])
-
-abbrev pub from_server : World → Message → Message
-from_server world m = record m { source = world.own }
-
--- what `send` answers, and the sends after it: -2 where there is no such destination, -1 where there were 16 sends
-abbrev pub sent : World → List Sent → ℤ → Message → ℤ × List Sent
-sent world sends to m =
-    if is_among to world.servers || is_client to then (if nat_lt (length sends) greatest_sends then (pos 0, sends ++ (to, from_server world m) ∷ []) else (negsuc 0, sends)) else (negsuc 1, sends)

@@ -18,9 +18,10 @@ use Rattle.src_tree.specs.declared.program.Function.{Function}
 use Rattle.src_tree.specs.declared.program.Global as Text
 use Rattle.src_tree.specs.declared.program.Program.{Program}
 use Rattle.src_tree.specs.Signatures.{has_signature}
+use Rattle.lu_base.specs.declared.limits.TheConstants.{HEAP_BYTES, ADDRESS_LIMIT}
 use Rattle.src_meaning.specs.Integers.{is_held}
 use Rattle.src_meaning.specs.Paths.{Layer}
-use Rattle.src_meaning.specs.Objects.{is_live, object_size, heap_bytes, greatest_heap, next_address, last_address}
+use Rattle.src_meaning.specs.Objects.{is_live, object_size, heap_bytes, next_address}
 use Rattle.src_meaning.specs.Initial.{global_elem, global_count}
 
 -- the function has exactly that signature
@@ -81,7 +82,7 @@ is_of_kind p x Temporary = is_struct (slice_get p.types.types x.elem) && nat_eq 
 
 abbrev pub is_heap_object : Program → Object → Bool
 is_heap_object p x =
-    is_of_kind p x x.kind && (nat_lt 0 x.count && nat_le (object_size p.types x) greatest_heap)
+    is_of_kind p x x.kind && (nat_lt 0 x.count && nat_le (object_size p.types x) HEAP_BYTES)
 
 -- the object of a global: live, with the global's element type and count
 abbrev pub is_global_object : Program → Text.Global → Object → Bool
@@ -101,5 +102,5 @@ are_objects p (g ∷ gs) (x ∷ xs) = is_global_object p g x && are_objects p gs
 pub record IsStore (p : Program) (store : Store) : Type 0 where
   pub objects : IsTrue (are_objects p p.globals store.objects)
   pub typed : IsTrue (list_all (is_well_typed p store) store.objects)
-  pub heap : heap_bytes p.types store ≤ greatest_heap
-  pub last : next_address p.types store ≤ last_address
+  pub heap : heap_bytes p.types store ≤ HEAP_BYTES
+  pub last : next_address p.types store ≤ ADDRESS_LIMIT

@@ -9,6 +9,7 @@ use Rattle.c_types.specs.declared.parts.Ty.TheVariants as T
 use Rattle.c_types.specs.declared.parts.Parts.{Parts}
 use Rattle.c_types.specs.Layout.{greatest, size_of}
 use Rattle.c_types.specs.Refusal.{IsBuilt}
+use Rattle.src_tree.specs.declared.expr.TypedExpr.{TypedExpr}
 use Rattle.src_tree.specs.declared.program.Init.{Init, Zero}
 use Rattle.src_tree.specs.declared.program.Function.{Function}
 use Rattle.src_tree.specs.declared.program.Global as Text
@@ -18,8 +19,8 @@ use Rattle.src_tree.specs.Signatures.{has_signature}
 use Rattle.src_meaning.specs.ValidTypes.{ty, is_int, is_named, is_result, signature_is_declared, greatest_params, is_declared_scalar, is_declared_object}
 use Rattle.src_meaning.specs.ValidTable.{has_types}
 use Rattle.src_meaning.specs.ValidExpression.{Declarations}
-use Rattle.src_meaning.specs.ValidStatement.{are_statements}
-use Rattle.src_meaning.specs.ValidInitialiser.{is_start}
+use Rattle.src_meaning.specs.ValidStatement.{are_statements, has_depth}
+use Rattle.src_meaning.specs.ValidInitialiser.{is_start, is_typed}
 use Rattle.src_meaning.specs.ValidNumbering.{is_numbered}
 use Rattle.src_meaning.specs.ValidNames.{are_names, names_differ, is_name, is_free, is_called}
 
@@ -169,3 +170,8 @@ is_valid p =
 pub record IsValid (p : Program) : Type 0 where
   pub built : IsBuilt p.types
   pub rules : IsTrue (is_valid p)
+
+-- a valid expression, as that of a filter: it names globals and functions alone, and keeps the bounds on depth and chains
+pub record IsValidExpression (p : Program) (e : TypedExpr) : Type 0 where
+  pub typed : IsTrue (is_typed p e)
+  pub bounds : IsTrue (has_depth top e)

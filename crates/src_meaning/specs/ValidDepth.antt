@@ -1,8 +1,9 @@
--- The bounds on depth and chains, counted as in a text with the fewest parentheses. Room is 65 less the number of constructs
+-- The bounds on depth and chains, counted as in a text with the fewest parentheses: where a chain has as many operators or
+-- steps as it may have, what stands left of them is in parentheses, and has a chain of its own. Room is 65 less the number of constructs
 -- that are open: statements, blocks, initialisers, expressions, unaries and lists of parameters. Each token needs room.
 -- A rank says how loosely an expression binds: 0 a postfix, 1 a unary, 2 to 11 the levels of binary operators from `*` to
 -- `||`, 12 a `?:`. Where an expression of a looser rank stands, it takes parentheses, which open a unary and an expression.
-use Rattle.std.specs.Prelude.{ℕ, ◌-◌, Bool, true, false, ◌&&◌, nat_eq, nat_lt, if◌then◌else◌, List, [], ◌∷◌}
+use Rattle.std.specs.Prelude.{ℕ, ◌-◌, Bool, true, false, ◌&&◌, ◌||◌, nat_eq, nat_lt, if◌then◌else◌, List, [], ◌∷◌}
 use Rattle.std.specs.List.{list_all}
 use Rattle.src_meaning.specs.declared.validity.Spot.{Spot}
 use Rattle.src_tree.specs.declared.expr.BinaryOperator.{BinaryOperator}
@@ -53,21 +54,21 @@ spot rank room = record { rank = rank; room = room; left = greatest_chain }
 abbrev pub has_room : Spot → Bool
 has_room s = nat_lt 1 s.room
 
+-- an expression of that rank needs parentheses: it binds more loosely than its place lets it, or the chain is full
+abbrev pub needs_parentheses : ℕ → Spot → Bool
+needs_parentheses rank s = nat_lt s.rank rank || (nat_eq s.rank rank && nat_eq s.left 0)
+
 -- the room of an expression of that rank, in parentheses where it needs them
 abbrev pub room_for : ℕ → Spot → ℕ
-room_for rank s = if nat_lt s.rank rank then s.room - 2 else s.room
+room_for rank s = if needs_parentheses rank s then s.room - 2 else s.room
 
 -- the operators or steps that a chain of that rank may still have
 abbrev pub left_for : ℕ → Spot → ℕ
-left_for rank s = if nat_eq s.rank rank then s.left else greatest_chain
+left_for rank s = if nat_eq s.rank rank && nat_lt 0 s.left then s.left else greatest_chain
 
 -- the operand of a unary operator
 abbrev pub operand_spot : Spot → Spot
 operand_spot s = spot unary_rank (room_for unary_rank s - 1)
-
--- a chain of that rank may have one more operator or step
-abbrev pub has_link : ℕ → Spot → Bool
-has_link rank s = nat_lt 0 (left_for rank s)
 
 -- the rest of a chain of that rank, left of its last operator or step
 abbrev pub chain_spot : ℕ → Spot → Spot
@@ -79,7 +80,7 @@ right_spot rank s = spot (rank - 1) (room_for rank s)
 
 -- an index between brackets
 abbrev pub index_spot : Spot → Spot
-index_spot s = spot whole_rank (s.room - 2)
+index_spot s = spot whole_rank (room_for postfix_rank s - 2)
 
 -- the condition of a `?:`
 abbrev pub condition_spot : Spot → Spot
@@ -89,9 +90,9 @@ condition_spot s = spot 11 (room_for whole_rank s)
 abbrev pub branch_spot : Spot → Spot
 branch_spot s = spot whole_rank (room_for whole_rank s - 1)
 
--- the left side of a `->`
+-- the left side of a `->`, whose step is counted where the field is named
 abbrev pub arrow_spot : Spot → Spot
-arrow_spot s = record { rank = postfix_rank; room = s.room; left = left_for postfix_rank s }
+arrow_spot s = record { rank = postfix_rank; room = s.room; left = if nat_eq s.rank postfix_rank then s.left else greatest_chain }
 
 abbrev mutual
   -- an expression keeps the bounds where it stands; conversions that the text doesn't write add nothing
@@ -103,9 +104,9 @@ abbrev mutual
   keeps_bounds s (Cast' m e) = row_keeps_bounds (operand_spot s) e
   keeps_bounds s (Unary' op m e) = row_keeps_bounds (operand_spot s) e
   keeps_bounds s (Binary' op m a n b) =
-      has_link (binary_rank op) s && (row_keeps_bounds (chain_spot (binary_rank op) s) a && row_keeps_bounds (right_spot (binary_rank op) s) b)
+      row_keeps_bounds (chain_spot (binary_rank op) s) a && row_keeps_bounds (right_spot (binary_rank op) s) b
   keeps_bounds s (Logical' op m a n b) =
-      has_link (logical_rank op) s && (row_keeps_bounds (chain_spot (logical_rank op) s) a && row_keeps_bounds (right_spot (logical_rank op) s) b)
+      row_keeps_bounds (chain_spot (logical_rank op) s) a && row_keeps_bounds (right_spot (logical_rank op) s) b
   keeps_bounds s (Conditional' m c n a k b) =
       row_keeps_bounds (condition_spot s) c && (row_keeps_bounds (branch_spot s) a && row_keeps_bounds (branch_spot s) b)
   keeps_bounds s _ = has_room s
@@ -119,11 +120,11 @@ abbrev mutual
   place_keeps_bounds s (Deref' m e) = row_keeps_bounds (operand_spot s) e
   place_keeps_bounds s (Arrow' m e) = row_keeps_bounds (arrow_spot s) e
   place_keeps_bounds s (Item' m p n i) =
-      has_link postfix_rank s && (row_keeps_bounds (chain_spot postfix_rank s) p && row_keeps_bounds (index_spot s) i)
+      row_keeps_bounds (chain_spot postfix_rank s) p && row_keeps_bounds (index_spot s) i
   place_keeps_bounds s (Element' m a n i) =
-      has_link postfix_rank s && (place_row_keeps_bounds (chain_spot postfix_rank s) a && row_keeps_bounds (index_spot s) i)
-  place_keeps_bounds s (Field' m e k) = has_link postfix_rank s && place_row_keeps_bounds (chain_spot postfix_rank s) e
-  place_keeps_bounds s (Member' m e k) = has_link postfix_rank s && place_row_keeps_bounds (chain_spot postfix_rank s) e
+      place_row_keeps_bounds (chain_spot postfix_rank s) a && row_keeps_bounds (index_spot s) i
+  place_keeps_bounds s (Field' m e k) = place_row_keeps_bounds (chain_spot postfix_rank s) e
+  place_keeps_bounds s (Member' m e k) = place_row_keeps_bounds (chain_spot postfix_rank s) e
 
   pub place_row_keeps_bounds : {m : _} → Spot → Row_of-TypedPlace m → Bool
   place_row_keeps_bounds s end_of-TypedPlace = true

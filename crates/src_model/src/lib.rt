@@ -25,5 +25,5 @@ pub use src_tree::expr::{
 pub use src_tree::program::{Function, Global, Init, Program, Site};
 pub use src_tree::stmt::{Call, Callee, Rhs, TypedStmt};
 pub use src_tree::value::{Object, ObjectKind, Store, Value};
-pub use valid::{Validity, valid_where_distinct};
+pub use valid::{Validity, is_valid_expression, valid_where_distinct};
 pub use valid_table::has_types;

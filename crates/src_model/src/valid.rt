@@ -10,18 +10,19 @@ ghost use Rattle.src_meaning.specs.Valid as spec;
 
 use crate::valid_expr::Declarations;
 use crate::valid_fits::type_of;
-use crate::valid_init::is_start;
+use crate::valid_init::{is_start, is_typed};
 use crate::valid_names::{
     are_distinct, are_few_identifiers, is_called, is_free, is_name, names_differ,
 };
 use crate::valid_numbering::is_numbered;
-use crate::valid_stmt::are_statements;
+use crate::valid_stmt::{are_statements, has_depth};
 use crate::valid_table::has_types;
 use crate::valid_types::{
     GREATEST_PARAMS, are_declared_scalars, is_declared_object, is_int, is_named, is_result,
     is_signature_declared,
 };
 use c_types::{FieldDef, GREATEST, Signature, TagDef, Ty, TyId};
+use src_tree::expr::TypedExpr;
 use src_tree::program::{Function, Global, Init, Program, Site};
 use src_tree::signatures::has_signature;
 
@@ -371,4 +372,12 @@ pub fn valid_where_distinct(program: &Program) -> bool
 {
     let _parts = program.types.parts();
     keeps_rules_where_distinct(program)
+}
+
+/// Whether the expression is valid in the program, as that of a filter is: it names globals and functions alone, is typed as
+/// the rules type it, and keeps the bounds on depth and chains. It takes no memory.
+pub fn is_valid_expression(program: &Program, e: &TypedExpr) -> bool
+    ensures { Tells result (spec.IsValidExpression program.now e.now) }
+{
+    is_typed(program, e) && has_depth(TOP, e)
 }

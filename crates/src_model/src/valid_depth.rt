@@ -68,10 +68,16 @@ fn has_room(spot: Spot) -> bool
     1 < spot.room
 }
 
+fn needs_parentheses(spot: Spot, rank: u32) -> bool
+    ensures { result ≡ spec.needs_parentheses rank spot }
+{
+    spot.rank < rank || spot.rank == rank && spot.left == 0
+}
+
 fn room_for(spot: Spot, rank: u32) -> u32
     ensures { result ≡ spec.room_for rank spot }
 {
-    if spot.rank < rank {
+    if needs_parentheses(spot, rank) {
         spot.room.saturating_sub(2)
     } else {
         spot.room
@@ -81,7 +87,7 @@ fn room_for(spot: Spot, rank: u32) -> u32
 fn left_for(spot: Spot, rank: u32) -> u32
     ensures { result ≡ spec.left_for rank spot }
 {
-    if spot.rank == rank {
+    if spot.rank == rank && 0 < spot.left {
         spot.left
     } else {
         GREATEST_CHAIN
@@ -92,12 +98,6 @@ fn operand(spot: Spot) -> Spot
     ensures { result ≡ spec.operand_spot spot }
 {
     chain_start(UNARY, room_for(spot, UNARY).saturating_sub(1))
-}
-
-fn has_link(spot: Spot, rank: u32) -> bool
-    ensures { result ≡ spec.has_link rank spot }
-{
-    0 < left_for(spot, rank)
 }
 
 fn chain(spot: Spot, rank: u32) -> Spot
@@ -119,7 +119,7 @@ fn right(spot: Spot, rank: u32) -> Spot
 fn between_brackets(spot: Spot) -> Spot
     ensures { result ≡ spec.index_spot spot }
 {
-    chain_start(WHOLE, spot.room.saturating_sub(2))
+    chain_start(WHOLE, room_for(spot, POSTFIX).saturating_sub(2))
 }
 
 fn condition(spot: Spot) -> Spot
@@ -140,7 +140,11 @@ fn arrow(spot: Spot) -> Spot
     Spot {
         rank: POSTFIX,
         room: spot.room,
-        left: left_for(spot, POSTFIX),
+        left: if spot.rank == POSTFIX {
+            spot.left
+        } else {
+            GREATEST_CHAIN
+        },
     }
 }
 
@@ -159,15 +163,11 @@ pub fn keeps_bounds(spot: Spot, e: &TypedExpr) -> bool
         ExprKind::Unary(_, inner) => keeps_bounds(operand(spot), inner.get()),
         ExprKind::Binary(operator, a, b) => {
             let rank = binary_rank(*operator);
-            has_link(spot, rank)
-                && keeps_bounds(chain(spot, rank), a.get())
-                && keeps_bounds(right(spot, rank), b.get())
+            keeps_bounds(chain(spot, rank), a.get()) && keeps_bounds(right(spot, rank), b.get())
         }
         ExprKind::Logical(operator, a, b) => {
             let rank = logical_rank(*operator);
-            has_link(spot, rank)
-                && keeps_bounds(chain(spot, rank), a.get())
-                && keeps_bounds(right(spot, rank), b.get())
+            keeps_bounds(chain(spot, rank), a.get()) && keeps_bounds(right(spot, rank), b.get())
         }
         ExprKind::Conditional(c, a, b) => {
             keeps_bounds(condition(spot), c.get())
@@ -189,20 +189,14 @@ pub fn place_keeps_bounds(spot: Spot, place: &TypedPlace) -> bool
         PlaceKind::Deref(e) => keeps_bounds(operand(spot), e.get()),
         PlaceKind::Arrow(e) => keeps_bounds(arrow(spot), e.get()),
         PlaceKind::Item(pointer, index) => {
-            has_link(spot, POSTFIX)
-                && keeps_bounds(chain(spot, POSTFIX), pointer.get())
+            keeps_bounds(chain(spot, POSTFIX), pointer.get())
                 && keeps_bounds(between_brackets(spot), index.get())
         }
         PlaceKind::Element(array, index) => {
-            has_link(spot, POSTFIX)
-                && place_keeps_bounds(chain(spot, POSTFIX), array.get())
+            place_keeps_bounds(chain(spot, POSTFIX), array.get())
                 && keeps_bounds(between_brackets(spot), index.get())
         }
-        PlaceKind::Field(whole, _) => {
-            has_link(spot, POSTFIX) && place_keeps_bounds(chain(spot, POSTFIX), whole.get())
-        }
-        PlaceKind::Member(whole, _) => {
-            has_link(spot, POSTFIX) && place_keeps_bounds(chain(spot, POSTFIX), whole.get())
-        }
+        PlaceKind::Field(whole, _) => { place_keeps_bounds(chain(spot, POSTFIX), whole.get()) }
+        PlaceKind::Member(whole, _) => { place_keeps_bounds(chain(spot, POSTFIX), whole.get()) }
     }
 }

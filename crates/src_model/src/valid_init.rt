@@ -41,7 +41,8 @@ fn is_before(global: u32, e: &TypedExpr) -> bool
     }
 }
 
-fn is_typed(p: &Program, e: &TypedExpr) -> bool
+/// Whether the expression names globals and functions alone, and is typed as the rules type it.
+pub fn is_typed(p: &Program, e: &TypedExpr) -> bool
     ensures { result ≡ spec.is_typed p.now e.now }
 {
     let at = Declarations {

@@ -30,8 +30,8 @@ place_keeps_bounds-returns-then-keeps_bounds t c = let e = ap (λ k. spec.place_
 pub place_keeps_bounds-returns-then-place_keeps_bounds : goal.place_keeps_bounds-returns-then-place_keeps_bounds
 place_keeps_bounds-returns-then-place_keeps_bounds t c = let e = ap (λ k. spec.place_keeps_bounds c.args.spot k) c.in-Element.is ∙ bounds-Element c.args.spot c.in-Element.array c.in-Element.index in search rules
 
-pub place_keeps_bounds-returns-then-has_link-3 : goal.place_keeps_bounds-returns-then-has_link-3
-place_keeps_bounds-returns-then-has_link-3 t c = let e = ap (λ k. spec.place_keeps_bounds c.args.spot k) c.in-Field.is ∙ bounds-Field c.args.spot c.in-Field.whole c.in-Field.field-1 in search rules
+pub place_keeps_bounds-returns-in-Field : goal.place_keeps_bounds-returns-in-Field
+place_keeps_bounds-returns-in-Field t c = let e = ap (λ k. spec.place_keeps_bounds c.args.spot k) c.in-Field.is ∙ bounds-Field c.args.spot c.in-Field.whole c.in-Field.field-1 in search rules
 
-pub place_keeps_bounds-returns-then-has_link-4 : goal.place_keeps_bounds-returns-then-has_link-4
-place_keeps_bounds-returns-then-has_link-4 t c = let e = ap (λ k. spec.place_keeps_bounds c.args.spot k) c.in-Member.is ∙ bounds-Member c.args.spot c.in-Member.whole c.in-Member.field-1 in search rules
+pub place_keeps_bounds-returns-in-Member : goal.place_keeps_bounds-returns-in-Member
+place_keeps_bounds-returns-in-Member t c = let e = ap (λ k. spec.place_keeps_bounds c.args.spot k) c.in-Member.is ∙ bounds-Member c.args.spot c.in-Member.whole c.in-Member.field-1 in search rules
