@@ -1,9 +1,11 @@
 // Renames, by table.
 
-ghost use Rattle.std.specs.Prelude.{◌≡◌, MatchOption, IsTrue, not};
-ghost use Rattle.lu_image.specs.Renaming.{comes_before, follow_in_order, are_in_order};
+ghost use Rattle.std.specs.Prelude.{◌≡◌, ◌≤◌, ◌↔◌, length, IfOk, IfSome, IsNone, IsTrue, OnOk};
+ghost use Rattle.std.specs.List.{list_any};
+ghost use Rattle.lu_image.specs.Renaming.{comes_before, has_name_of, has_name_twice, place_among, with_rename, in_order, are_in_order};
 
-use lu_base::Name;
+use lu_base::{Memory, Name};
+use std::alloc::Global;
 use std::marker::Model;
 
 /// What a rename speaks of.
@@ -58,30 +60,60 @@ fn comes_before(a: &Rename, b: &Rename) -> bool
     }
 }
 
-/// Whether each rename comes before the next one, from `first` on.
-fn follow_in_order(first: &Rename, rest: &[Rename]) -> bool
-    ensures { result ≡ follow_in_order first.now rest.now }
+// Whether two renames are of one table and have one old name.
+fn has_name_of(a: &Rename, b: &Rename) -> bool
+    ensures { result ≡ has_name_of a.now b.now }
 {
-    let mut before = first;
-    for rename in rest {
-        if !comes_before(before, rename) {
-            return false;
+    a.table.number() == b.table.number() && a.old.as_bytes() == b.old.as_bytes()
+}
+
+fn any_has_name_of(rename: &Rename, others: &[Rename]) -> bool
+    ensures { result ≡ list_any (has_name_of rename.now) others.now }
+{
+    others.iter().any(|other| has_name_of(rename, other))
+}
+
+fn has_name_twice(renames: &[Rename]) -> bool
+    ensures { result ≡ has_name_twice renames.now }
+{
+    let mut rest = renames;
+    while let [rename, after @ ..] = rest {
+        if any_has_name_of(rename, after) {
+            return true;
         }
-        before = rename;
+        rest = after;
     }
-    true
+    false
 }
 
-fn are_in_order(renames: &[Rename]) -> bool
-    ensures { result ≡ are_in_order renames.now }
+// How many stand before the first that the rename comes before.
+fn place_among(rename: &Rename, renames: &[Rename]) -> usize
+    ensures place { result ≡ place_among rename.now renames.now }
+    ensures bound { result ≤ length renames.now }
 {
-    match renames {
-        [] => true,
-        [first, rest @ ..] => follow_in_order(first, rest),
+    let mut place = 0;
+    let mut rest = renames;
+    while let [other, after @ ..] = rest {
+        if comes_before(rename, other) {
+            return place;
+        }
+        place += 1;
+        rest = after;
     }
+    place
 }
 
-/// Renames in the order of their tables and, within one, of the old names' bytes. So no table has one old name twice.
+// Puts a rename before the first that it comes before.
+#[tactic(auto, using(crate::proofs::RenamesOrder::places))]
+fn put(renames: &mut Vec<Rename>, rename: Rename) -> Result<(), Memory>
+    ensures { OnOk result (renames.new.items ≡ with_rename rename renames.old.items) }
+{
+    let place = place_among(&rename, renames);
+    renames.insert(place, rename)?;
+    Ok(())
+}
+
+/// Renames in which no table has one old name twice, in the order of their tables and, within one, of the old names' bytes.
 #[derive(Debug, Drop)]
 pub struct Renames {
     items: Vec<Rename>,
@@ -99,17 +131,31 @@ impl Model for Renames {
     ghost invariant = { λ r. IsTrue (are_in_order r.items.items) };
 }
 
+#[tactic(auto, using(crate::proofs::RenamesOrder::orders))]
+fn in_order(alloc: Global, renames: Vec<Rename>) -> Result<Vec<Rename>, Memory>
+    ensures { IfOk result (λ made. made.items ≡ in_order renames.items) }
+{
+    let mut made = Vec::new(alloc);
+    let mut rest = renames;
+    while let Some(rename) = rest.pop() {
+        put(&mut made, rename)?;
+    }
+    Ok(made)
+}
+
 impl Renames {
-    /// These renames; none where they are not in order or a table has one old name twice.
-    pub fn new(items: Vec<Rename>) -> Option<Renames>
-        ensures { MatchOption result (IsTrue (not (are_in_order items.items)))
-            (λ renames. (renames ≡ items.items)) }
+    /// These renames, given in any order; none where a table has one old name twice.
+    #[tactic(auto, using(crate::proofs::RenamesOrder::orders))]
+    pub fn new(alloc: Global, renames: Vec<Rename>) -> Result<Option<Renames>, Memory>
+        ensures none { IfOk result (λ made. IsNone made ↔ IsTrue (has_name_twice renames.items)) }
+        ensures some { IfOk result (λ made. IfSome made (λ made. made ≡ in_order renames.items)) }
     {
-        if are_in_order(&items) {
-            Some(Renames { items })
-        } else {
-            None
+        if has_name_twice(&renames) {
+            return Ok(None);
         }
+        Ok(Some(Renames {
+            items: in_order(alloc, renames)?,
+        }))
     }
 
     pub fn as_slice(&self) -> &[Rename]

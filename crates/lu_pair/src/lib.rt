@@ -11,4 +11,4 @@ mod sites;
 mod texts;
 
 pub use lu_image::PairError;
-pub use paired::{has_few_entries, pair};
+pub use paired::pair;

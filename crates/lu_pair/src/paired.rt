@@ -1,7 +1,6 @@
 // Two programs table by table.
 
 ghost use Rattle.std.specs.Prelude.{◌≡◌, ◌<◌, ◌^◌, [], length, IfOk};
-ghost use Rattle.c_types.specs.Words.{Tells};
 ghost use Rattle.lu_image.specs.Pairing.{pair_names, global_pairs, struct_pairs, field_pairs, union_pairs, member_pairs, function_pairs, site_pairs};
 ghost use Rattle.lu_image.specs.RenameRefusal.{first_refusal, global_refusal, struct_refusal, field_refusal, union_refusal, member_refusal, function_refusal, site_refusal, refusal_of, or_else, pair};
 ghost use Rattle.lu_pair.specs.Refusing.{IsRefusedBy, IsPairedBy};
@@ -300,15 +299,6 @@ fn pair_tables(
         functions,
         sites,
     })
-}
-
-/// Whether each list of a program's globals, functions and sites is shorter than there are numbers of 32 bits.
-pub fn has_few_entries(program: &Program) -> bool
-    ensures { Tells result (HasFewEntries program.now) }
-{
-    program.globals.as_slice().len() <= u32::MAX as usize
-        && program.functions.as_slice().len() <= u32::MAX as usize
-        && program.sites.as_slice().len() <= u32::MAX as usize
 }
 
 /// Pairs two programs by their names and by renames. The pairing has no handler and nothing that is called last, and it

@@ -1,7 +1,10 @@
+ghost use Rattle.c_types.specs.Words.{Tells};
+ghost use Rattle.lu_pair.specs.Tags.{HasFewEntries};
+
 use crate::programs::program;
 use lu_base::Name;
 use lu_image::{Pairing, Rename, Renames, Table};
-use lu_pair::{has_few_entries, pair};
+use lu_pair::pair;
 use src_tree::program::Program;
 use std::alloc::Global;
 use std::test::Fail;
@@ -12,7 +15,16 @@ fn rename(alloc: Global) -> Result<Renames, Fail> {
         old: Name::from_ascii(alloc, b"a")?,
         new: Name::from_ascii(alloc, b"b")?,
     };
-    Ok(Renames::new(vec![in alloc; rename]?).ok_or("not in order")?)
+    Ok(Renames::new(alloc, vec![in alloc; rename]?)?.ok_or("a name twice")?)
+}
+
+// Whether each list of a program's globals, functions and sites is shorter than there are numbers of 32 bits.
+fn has_few_entries(program: &Program) -> bool
+    ensures { Tells result (HasFewEntries program.now) }
+{
+    program.globals.as_slice().len() <= u32::MAX as usize
+        && program.functions.as_slice().len() <= u32::MAX as usize
+        && program.sites.as_slice().len() <= u32::MAX as usize
 }
 
 fn paired(alloc: Global, old: &Program, new: &Program, renames: &Renames) -> Result<Pairing, Fail> {
