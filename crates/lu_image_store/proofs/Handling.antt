@@ -24,7 +24,7 @@ use Rattle.src_tree.specs.declared.expr.PlaceKind.{PlaceKind, Global, Arrow, Ele
 use Rattle.src_tree.specs.declared.stmt.Rhs.TheVariants.{Value as Plain}
 use Rattle.src_tree.specs.declared.stmt.TypedStmt.{TypedStmt, Assign}
 use Rattle.src_tree.specs.declared.value.ObjectKind.TheVariants as O
-use Rattle.src_meaning.specs.Sending.{World}
+use Rattle.lu_base.specs.declared.world.World.{World}
 use Rattle.src_meaning.specs.Initial.{initial_store}
 use Rattle.lu_image.specs.declared.handler.Handler.{Handler}
 use Rattle.lu_image_store.specs.Versions.{Versions}

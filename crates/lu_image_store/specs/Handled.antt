@@ -14,8 +14,9 @@ use Rattle.src_tree.specs.declared.value.Object.{Object}
 use Rattle.src_tree.specs.declared.value.Store.{Store}
 use Rattle.src_tree.specs.declared.program.Program.{Program}
 use Rattle.src_meaning.specs.Objects.{has_room, append_object, with_object, with_elements}
-use Rattle.src_meaning.specs.Sending.{World}
-use Rattle.src_meaning.specs.Call.{Ending, Returned, Trapped, Starved, call, delivery_ticks}
+use Rattle.lu_base.specs.declared.world.World.{World}
+use Rattle.lu_base.specs.declared.limits.TheConstants.{CALL_TICKS}
+use Rattle.src_meaning.specs.Call.{Ending, Returned, Trapped, Starved, call}
 use Rattle.src_meaning.specs.Delivery.{with_no_messages}
 use Rattle.src_meaning.specs.Initial.{initial_store}
 use Rattle.lu_image.specs.declared.refusal.Refusal.{Refusal}
@@ -105,7 +106,7 @@ after_call number (Trapped t ticks) = Err (traps number t)
 after_call number Starved = Err (traps number BadCode)
 
 abbrev pub call_from : Program → World → ℕ → ℕ → List Value → Store → Handles
-call_from p world number f args next = after_call number (call p world next f args delivery_ticks)
+call_from p world number f args next = after_call number (call p world next f args CALL_TICKS)
 
 -- an object is dead from now on
 abbrev pub without : ℕ → Store → Store

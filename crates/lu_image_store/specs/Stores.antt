@@ -7,7 +7,8 @@ use Rattle.src_tree.specs.declared.value.ObjectKind.{ObjectKind}
 use Rattle.src_tree.specs.declared.value.ObjectKind.TheVariants.{Global, Heap, Temporary}
 use Rattle.src_tree.specs.declared.value.Object.{Object}
 use Rattle.src_tree.specs.declared.value.Store.{Store}
-use Rattle.src_meaning.specs.Objects.{greatest_heap, is_global, live_elements, with_elements, with_object, append_object}
+use Rattle.lu_base.specs.declared.limits.TheConstants.{HEAP_BYTES}
+use Rattle.src_meaning.specs.Objects.{is_global, live_elements, with_elements, with_object, append_object}
 use Rattle.lu_image.specs.declared.refusal.Refusal.{Refusal}
 use Rattle.lu_image.specs.declared.refusal.Why.TheVariants as W
 use Rattle.lu_image.specs.declared.refusal.Kept.{Kept}
@@ -57,7 +58,7 @@ heap_size m store k = option_map_or (λ x. size_in m x x.kind) (slice_get store.
 abbrev pub first_over : (ℕ → ℕ) → ℕ → List ℕ → Option ℕ
 first_over size total [] = None
 first_over size total (k ∷ ks) =
-    if nat_lt greatest_heap (total + size k) then Some k else first_over size (total + size k) ks
+    if nat_lt HEAP_BYTES (total + size k) then Some k else first_over size (total + size k) ks
 
 abbrev pub unless_over : Makes → Option ℕ → Makes
 unless_over given None = given
