@@ -160,11 +160,11 @@ signature_is_declared is_param p (Some g) =
     is_result p g.result && (nat_le (length g.params) greatest_params && list_all is_param g.params)
 
 -- A type by which a text with this room declares something that is no array, where room is 65 less the constructs that are
--- open: a named type, or a pointer to a function whose parameters, in one more construct, are such scalars
+-- open: a named type, or a pointer to a function whose parameters, in one more construct, are such scalars, or `void`
 abbrev pub is_declared : Parts → ℕ → Option Ty → Bool
 is_declared p zero t = false
 is_declared p (suc room) (Some (T.Function g)) =
-    signature_is_declared (λ u. is_scalar (ty p u) && is_declared p room (ty p u)) p (slice_get p.signatures g)
+    nat_lt 0 room && signature_is_declared (λ u. is_scalar (ty p u) && is_declared p room (ty p u)) p (slice_get p.signatures g)
 is_declared p (suc room) t = is_starred p greatest_stars t
 
 -- the type of a local or of a parameter in a text with this room

@@ -1,6 +1,6 @@
 // Types as the rules of the language ask for them.
 
-ghost use Rattle.std.specs.Prelude.{◌≡◌, ◌≤◌, Some, length, slice_get};
+ghost use Rattle.std.specs.Prelude.{◌≡◌, ◌≤◌, ◌&&◌, nat_lt, Some, length, slice_get};
 ghost use Rattle.std.specs.List.{list_all};
 ghost use Rattle.c_types.specs.Numbering.{is_array};
 ghost use Rattle.src_meaning.specs.ValidTypes as spec;
@@ -280,6 +280,14 @@ fn is_numbered_signature_declared(parts: &Parts, room: u32, number: u32) -> bool
     }
 }
 
+/// Whether a text with this room after `(` of the parameters may declare a pointer to a function of the signature.
+#[cycle(is_declared)]
+fn is_pointer_declared(parts: &Parts, room: u32, number: u32) -> bool
+    ensures { result ≡ nat_lt 0 room && spec.signature_is_declared (spec.is_declared_scalar parts.now room) parts.now (slice_get parts.now.signatures number) }
+{
+    0 < room && is_numbered_signature_declared(parts, room, number)
+}
+
 #[cycle(is_declared)]
 fn is_declared(parts: &Parts, room: u32, ty: Option<Ty>) -> bool
     ensures { result ≡ spec.is_declared parts.now room ty }
@@ -288,7 +296,7 @@ fn is_declared(parts: &Parts, room: u32, ty: Option<Ty>) -> bool
         return false;
     }
     match ty {
-        Some(Ty::Function(number)) => is_numbered_signature_declared(parts, room - 1, number),
+        Some(Ty::Function(number)) => is_pointer_declared(parts, room - 1, number),
         _ => is_starred(parts, GREATEST_STARS, ty),
     }
 }

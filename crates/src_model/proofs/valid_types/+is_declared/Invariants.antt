@@ -11,7 +11,10 @@ abbrev pub decreases-is_declared_scalar : goal.decreases-is_declared_scalar
 decreases-is_declared_scalar l = 200 * l.room + 1
 
 abbrev pub decreases-is_signature_declared : goal.decreases-is_signature_declared
-decreases-is_signature_declared l = 200 * l.room + 198
+decreases-is_signature_declared l = 200 * l.room + 197
 
 abbrev pub decreases-is_numbered_signature_declared : goal.decreases-is_numbered_signature_declared
-decreases-is_numbered_signature_declared l = 200 * l.room + 199
+decreases-is_numbered_signature_declared l = 200 * l.room + 198
+
+abbrev pub decreases-is_pointer_declared : goal.decreases-is_pointer_declared
+decreases-is_pointer_declared l = 200 * l.room + 199
