@@ -1,0 +1,4 @@
+pub mod Pieces
+pub mod Sizes
+pub mod Code
+pub mod Seen
