@@ -5,10 +5,10 @@
 //! the sizes of the parts give, so nothing is written twice.
 #![tactic(auto)]
 
-mod emit;
+pub mod emit;
 mod operators;
 mod places;
-mod scalars;
-mod sizes;
-mod target;
+pub mod scalars;
+pub mod sizes;
+pub mod target;
 mod words;
