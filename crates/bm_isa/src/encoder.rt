@@ -4,7 +4,7 @@ ghost use Rattle.std.specs.Prelude.{◌≡◌, ◌++◌, IfOk, OnOk};
 ghost use Rattle.lu_spec.specs.LittleEndian.{little_endian};
 ghost use Rattle.bm_isa.specs.Encoding.{code_bytes, operand_bytes, instruction_bytes};
 
-use crate::error::Memory;
+use lu_base::Memory;
 use crate::instr::{Instr, Operands};
 use crate::table::parts;
 use std::alloc::Global;

@@ -10,5 +10,6 @@ mod table;
 
 pub use decoder::decode;
 pub use encoder::encode;
-pub use error::{IsaError, Memory};
+pub use error::IsaError;
 pub use instr::{Instr, Operands};
+pub use lu_base::Memory;

@@ -5,7 +5,7 @@ ghost use Rattle.std.specs.Ordering.{nat_cmp};
 ghost use Rattle.std.specs.FinMap as map;
 ghost use Rattle.bm_mem.specs.Content.{IsClear, IsInside, IsRead, IsWidth, IsWritten};
 
-use crate::error::Memory;
+use lu_base::Memory;
 use std::alloc::Global;
 
 /// Memory of objects that share no byte. Clauses see a finite map from the address of each object to its bytes.

@@ -3,9 +3,8 @@
 #![tactic(auto)]
 
 mod bytes;
-mod error;
 mod vec_bytes;
 
 pub use bytes::Bytes;
-pub use error::Memory;
+pub use lu_base::Memory;
 pub use vec_bytes::VecBytes;

@@ -5,7 +5,7 @@ ghost use Rattle.lu_spec.specs.Splice.{spliced};
 ghost use Rattle.bm_mem.specs.Layout.{entries, IsLaidOut, IsCountUpTo, IsPlaceOf};
 
 use crate::bytes::Bytes;
-use crate::error::Memory;
+use lu_base::Memory;
 use std::alloc::Global;
 use std::marker::Model;
 

@@ -2,11 +2,10 @@
 //! row that has an address among its bytes or as its end.
 #![tactic(auto)]
 
-mod error;
 mod objects;
 mod row;
 mod search;
 
-pub use error::Memory;
+pub use lu_base::Memory;
 pub use objects::Objects;
 pub use row::Row;

@@ -2,7 +2,7 @@
 
 ghost use Rattle.std.specs.Prelude.{◌≡◌, ◌<◌, ◌^◌, ◌==◌, [], ◌∷◌, ◌++◌, length, All, Any, find, slice_get, Some, OnOk, OnErr};
 
-use crate::error::Memory;
+use lu_base::Memory;
 use crate::row::Row;
 use crate::search::last_up_to;
 use std::alloc::Global;

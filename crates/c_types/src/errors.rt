@@ -3,16 +3,6 @@ ghost use Rattle.c_types.specs.declared.errors.BuildError.TheVariants as BuildEr
 
 use std::alloc::AllocError;
 
-/// There was no memory.
-#[derive(Clone, Copy, Debug, PartialEq, Eq)]
-pub struct Memory;
-
-impl From<AllocError> for Memory {
-    fn from(_: AllocError) -> Memory {
-        Memory
-    }
-}
-
 /// Why no table is built, each with the least number that it applies to.
 #[derive(Clone, Copy, Debug, PartialEq, Eq)]
 pub enum BuildError {

@@ -15,7 +15,8 @@ mod rounds;
 mod shape;
 mod table;
 
-pub use errors::{BuildError, Memory};
+pub use errors::BuildError;
+pub use lu_base::Memory;
 pub use lu_base::Sequence;
 pub use numbering::well_numbered;
 pub use parts::{FieldDef, IntKind, Parts, Signature, TagDef, Ty, TyId};

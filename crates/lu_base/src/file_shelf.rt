@@ -20,7 +20,7 @@ impl<'a, R: Files> FileShelf<'a, R> {
     }
 }
 
-// Reads at most one byte more than `max`.
+// Reads at most one byte more than `max`, and asks again after an interrupted call.
 fn read_up_to<F: Read>(alloc: Global, file: &mut F, max: u64) -> Result<Bytes8, ShelfFault> {
     let mut bytes = Vec::new(alloc);
     let mut buffer = [0u8; 4096];
@@ -28,6 +28,7 @@ fn read_up_to<F: Read>(alloc: Global, file: &mut F, max: u64) -> Result<Bytes8, 
     for _ in 0..u64::MAX {
         let asked = left.min(4095) as usize + 1;
         match file.read(&mut buffer[..asked]) {
+            Err(fault) if fault.kind() == ErrorKind::Interrupted => {}
             Err(_) => return Err(ShelfFault::Failed),
             Ok(0) => return Ok(Bytes8::new(bytes)),
             Ok(count) if count as u64 > left => return Err(ShelfFault::TooLarge),

@@ -1,7 +1,7 @@
 ghost use Rattle.std.specs.Prelude.{◌≡◌};
 
 use crate::{Sink, SinkFault};
-use std::io::{Write, writer};
+use std::io::{ErrorKind, Write, writer};
 
 /// Standard output. It tells nothing of what was written, and never answers `Memory`.
 #[derive(Drop)]
@@ -17,16 +17,20 @@ impl<'a, P: Print> OutSink<'a, P> {
     }
 }
 
-// Whether all of the piece was taken. A write that takes nothing of it is a failure.
+// Whether all of the piece was taken. A write that takes nothing of it is a failure, an interrupted one is made again.
 fn write_whole<W: Write>(out: &mut W, piece: &[u8]) -> bool {
     let mut rest = piece;
-    while !rest.is_empty() {
+    for _ in 0..u64::MAX {
+        if rest.is_empty() {
+            return true;
+        }
         match out.write(rest) {
             Ok(count) if count > 0 => rest = &rest[count..],
+            Err(fault) if fault.kind() == ErrorKind::Interrupted => {}
             _ => return false,
         }
     }
-    true
+    false
 }
 
 impl<'a, P: Print> Sink for OutSink<'a, P> {

@@ -1,4 +1,3 @@
-pub mod Answer
 pub mod Fault
 pub mod Prefix
 pub mod LittleEndian
