@@ -4,9 +4,9 @@ ghost use Rattle.std.specs.Prelude.{◌≡◌, ◌++◌, IfOk, OnOk};
 ghost use Rattle.lu_spec.specs.LittleEndian.{little_endian};
 ghost use Rattle.bm_isa.specs.Encoding.{code_bytes, operand_bytes, instruction_bytes};
 
-use lu_base::Memory;
 use crate::instr::{Instr, Operands};
 use crate::table::parts;
+use lu_base::Memory;
 use std::alloc::Global;
 
 /// The bytes of some instructions, one after another: the number of each in one byte, and then its operands, each in

@@ -2,9 +2,9 @@
 
 ghost use Rattle.std.specs.Prelude.{◌≡◌, ◌<◌, ◌^◌, ◌==◌, [], ◌∷◌, ◌++◌, length, All, Any, find, slice_get, Some, OnOk, OnErr};
 
-use lu_base::Memory;
 use crate::row::Row;
 use crate::search::last_up_to;
+use lu_base::Memory;
 use std::alloc::Global;
 use std::marker::Model;
 

@@ -16,8 +16,7 @@ mod shape;
 mod table;
 
 pub use errors::BuildError;
-pub use lu_base::Memory;
-pub use lu_base::Sequence;
+pub use lu_base::{Memory, Sequence};
 pub use numbering::well_numbered;
 pub use parts::{FieldDef, IntKind, Parts, Signature, TagDef, Ty, TyId};
 pub use path::{Path, Place, Step};

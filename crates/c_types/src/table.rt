@@ -12,12 +12,12 @@ use crate::cycles::first_cycle;
 use crate::descent::path_place;
 use crate::duplicates::{first_duplicate, first_empty};
 use crate::errors::BuildError;
-use lu_base::Memory;
 use crate::parts::{Parts, Ty, TyId};
 use crate::path::{Path, Step};
 use crate::places::{find_place, has_place};
 use crate::rounds::all_shapes;
 use crate::shape::{GREATEST, Shape, shape_at};
+use lu_base::Memory;
 use std::alloc::{AllocError, Global};
 use std::marker::Model;
 
