@@ -2,7 +2,7 @@
 use Rattle.std.proofs.Common.{◌≡◌, ◌∙◌, refl, ap, sym, subst, ℕ, zero, suc, ◌+◌, ◌*◌, ◌<◌, ◌≤◌, Some, arith}
 use Rattle.lu_base.specs.declared.trap.Trap.TheVariants.{Budget}
 use Rattle.bm_code.specs.declared.code.MachineCode.{MachineCode}
-use Rattle.bm_code.specs.declared.world.World.{World}
+use Rattle.lu_base.specs.declared.world.World.{World}
 use Rattle.bm_code.specs.Process.{Process}
 use Rattle.bm_code.specs.Transfers.{Effect, Next, Spends, Returns, Traps, idle}
 use Rattle.bm_code.specs.Step.{step_instruction}

@@ -1,7 +1,8 @@
 -- The definition on small codes.
 use Rattle.std.proofs.Common.{◌≡◌, refl, ℕ, List, [], ◌∷◌, Option, Some, None}
-use Rattle.std.specs.Prelude.{pos, negsuc}
+use Rattle.std.specs.Prelude.{◌-◌, pos, negsuc}
 use Rattle.std.specs.FinMap.{empty}
+use Rattle.lu_base.specs.declared.limits.TheConstants.{CALL_TICKS, FIRST_ADDRESS, FRAMES}
 use Rattle.lu_base.specs.declared.trap.Trap.TheVariants.{Budget, BadCode, DivZero, BadCall, Depth, Panic as Panics}
 use Rattle.c_types.specs.declared.parts.Ty.TheVariants.{Int as IntTy}
 use Rattle.c_types.specs.declared.parts.IntKind.TheVariants.{Int}
@@ -10,8 +11,8 @@ use Rattle.bm_isa.specs.declared.instr.Instr.{Instr}
 use Rattle.bm_isa.specs.declared.instr.Instr.TheVariants as I
 use Rattle.bm_code.specs.declared.code.MachineCode.{MachineCode}
 use Rattle.bm_code.specs.declared.code.MachineFunction.{MachineFunction}
-use Rattle.bm_code.specs.declared.world.World.{World}
-use Rattle.bm_code.specs.Process.{Starting, Process, call_ticks}
+use Rattle.lu_base.specs.declared.world.World.{World}
+use Rattle.bm_code.specs.Process.{Starting, Process}
 use Rattle.bm_code.specs.Run.{Ending, Returned, Trapped, Paused, Final, run_machine}
 
 -- signature 0 has one parameter and a result, signature 1 has neither
@@ -34,7 +35,7 @@ world : World
 world = record { own = pos 1; servers = pos 1 ∷ pos 2 ∷ [] }
 
 start : List ℕ → Process
-start args = record { content = empty; rows = []; next = 0x1000; outbox = []; activity = Starting 0 args; spare = call_ticks }
+start args = record { content = empty; rows = []; next = FIRST_ADDRESS; outbox = []; activity = Starting 0 args; spare = CALL_TICKS }
 
 ending_of : Option Final → Option Ending
 ending_of None = None
@@ -125,19 +126,19 @@ panics_with : ends panics [] 1 ≡ Some (Trapped (Panics (negsuc 0)))
 unfolding ends panics function program types world start ending_of
 panics_with = refl
 
--- the 128th frame is entered with the 128th tick, and the next trap is Depth, which takes none
-enters_all : ending_of (run_machine (program deeper) world 300 128 (start [])) ≡ Some (Trapped Depth)
+-- the last frame is entered with a tick for each, and the next trap is Depth, which takes none
+enters_all : ending_of (run_machine (program deeper) world 300 FRAMES (start [])) ≡ Some (Trapped Depth)
 unfolding deeper function program types world start ending_of
 enters_all = refl
 
-no_more_ticks : ending_of (run_machine (program deeper) world 300 127 (start [])) ≡ Some Paused
+no_more_ticks : ending_of (run_machine (program deeper) world 300 (FRAMES - 1) (start [])) ≡ Some Paused
 unfolding deeper function program types world start ending_of
 no_more_ticks = refl
 
 -- no tick is left of the call
 spent : Process
 unfolding start
-spent = record { content = empty; rows = []; next = 0x1000; outbox = []; activity = Starting 0 []; spare = 0 }
+spent = record { content = empty; rows = []; next = FIRST_ADDRESS; outbox = []; activity = Starting 0 []; spare = 0 }
 
 out_of_budget : ending_of (run_machine (program endless) world 9 5 spent) ≡ Some (Trapped Budget)
 unfolding endless function program types world spent ending_of

@@ -1,22 +1,22 @@
 -- Each instruction leaves less to do, or spends a tick.
 use Rattle.std.proofs.Common.{◌≡◌, ◌∙◌, refl, ap, Bool, true, false, cond, ℕ, zero, suc, ◌+◌, ◌-◌, ◌<◌, ◌≤◌, max, List, [], ◌∷◌, ◌++◌, length, Option, Some, None, Result, Ok, Err, arith, nat_lt, nat_le, nat_eq}
-use Rattle.std.specs.Prelude.{slice_get, slice_set, option_to_list, ℤ, pos, negsuc, find, if◌then◌else◌, ◌%◌, ◌^◌}
+use Rattle.std.specs.Prelude.{slice_get, slice_set, option_to_list, ℤ, if◌then◌else◌, ◌%◌, ◌^◌}
 use Rattle.std.specs.Int.{w32, cast_signed}
-use Rattle.std.specs.Option.{option_map_or}
-use Rattle.bm_objects.specs.Table.{reaches}
 use Rattle.std.proofs.lemmas.Option.{slice_get_within}
 use Rattle.std.proofs.lemmas.Bool.Decides.{nat_tests}
 use Rattle.lu_spec.specs.Then.{then_do}
 use Rattle.lu_spec.specs.LittleEndian.{little_endian}
+use Rattle.lu_base.specs.declared.limits.TheConstants.{FRAMES}
+use Rattle.lu_base.specs.Sending.{sent}
 use Rattle.lu_base.specs.declared.trap.Trap.{Trap}
 use Rattle.lu_base.specs.declared.trap.Trap.TheVariants.{BadCode, BadFree, Depth, Panic as Panics}
 use Rattle.c_types.specs.declared.parts.Signature.{Signature}
 use Rattle.bm_mem.specs.Content.{Content}
 use Rattle.bm_objects.specs.declared.row.Row.{Row}
-use Rattle.bm_alu.specs.Words.{combined, transformed, signed}
+use Rattle.bm_alu.specs.Words.{combined, transformed, signed, of_signed}
 use Rattle.bm_code.specs.declared.code.MachineCode.{MachineCode}
 use Rattle.bm_code.specs.declared.code.MachineFunction.{MachineFunction}
-use Rattle.bm_code.specs.declared.world.World.{World}
+use Rattle.lu_base.specs.declared.world.World.{World}
 use Rattle.bm_code.specs.declared.operation.Operation.{Operation}
 use Rattle.bm_code.specs.declared.operation.Operation.TheVariants as O
 use Rattle.bm_code.specs.declared.operation.Stacking.{Stacking}
@@ -32,8 +32,8 @@ use Rattle.bm_code.specs.Process.{Frame, Activity, Idle, Starting, Running, Proc
 use Rattle.bm_code.specs.Access.{live_at, read_at, written_at, scalars, scalar_size}
 use Rattle.bm_code.specs.Frames.{some_or, on_top, on_two, moved, advanced, bad, pushed, with_local, stacked, on_word, on_words}
 use Rattle.bm_code.specs.Pointers.{pointed, read, with_active, wrote, written}
-use Rattle.bm_code.specs.Transfers.{Effect, Next, Spends, Returns, Traps, trap, running, jump, is_place_of, pop_words, entered, has_room, frame_limit, enter, call, call_word, give_back, on_result, transferred}
-use Rattle.bm_code.specs.Services.{new_row, can_allocate, with_object, allocate, is_heap_start, without_object, free, message_bytes, message_of, answer, is_recipient, outbox_limit, send, served}
+use Rattle.bm_code.specs.Transfers.{Effect, Next, Spends, Returns, Traps, trap, running, jump, is_place_of, pop_words, entered, has_room, enter, call, call_word, give_back, on_result, transferred}
+use Rattle.bm_code.specs.Services.{new_row, can_allocate, with_object, allocate, is_heap_object, without_object, free, message_bytes, message_of, send, served}
 use Rattle.bm_code.specs.Step.{on_frame, on_memory, act, fetched, step_in}
 use Rattle.bm_code.specs.Measure.{ahead_in, ahead_of, ahead, longest}
 
@@ -194,7 +194,7 @@ module _ (code : MachineCode) (world : World) where
 
     enter_falls : (g : ℕ) (d : MachineFunction) (s : Signature) (split : List ℕ × List ℕ) → slice_get ms g ≡ Some d → Falls now (enter m p f callers g d s split)
     enter_falls g d s split d_at =
-        falls_if now (has_room m s.result split.1) _ (trap BadCode p) (falls_if now (nat_lt (length callers + 1) frame_limit) (Spends (running p (entered d g split.0) (moved f (f.place + 1) split.1 ∷ callers))) (trap Depth p) inner tt) tt
+        falls_if now (has_room m s.result split.1) _ (trap BadCode p) (falls_if now (nat_lt (length callers + 1) FRAMES) (Spends (running p (entered d g split.0) (moved f (f.place + 1) split.1 ∷ callers))) (trap Depth p) inner tt) tt
       where
         inner : ahead ms (Running (entered d g split.0) (moved f (f.place + 1) split.1 ∷ callers)) ≤ ahead ms now + longest ms
         inner =
@@ -248,19 +248,11 @@ module _ (code : MachineCode) (world : World) where
     on_here rest = on_next p (advanced f rest) (refl, refl)
 
     send_falls : (rest : List ℕ) (to : ℤ) (bytes : List ℕ) → Falls now (send world p f callers rest to bytes)
-    send_falls rest to bytes = by_recipient (is_recipient world to)
-      where
-        by_room : (b : Bool) → Falls now (cond b (Next (running (record p { outbox = p.outbox ++ (to, message_of world.own bytes) ∷ [] }) (advanced f (answer (pos 0) ∷ rest)) callers)) (Next (running p (advanced f (answer (negsuc 0) ∷ rest)) callers)))
-        by_room true = on_here (answer (pos 0) ∷ rest)
-        by_room false = on_here (answer (negsuc 0) ∷ rest)
-
-        by_recipient : (b : Bool) → Falls now (cond b (cond (nat_lt (length p.outbox) outbox_limit) (Next (running (record p { outbox = p.outbox ++ (to, message_of world.own bytes) ∷ [] }) (advanced f (answer (pos 0) ∷ rest)) callers)) (Next (running p (advanced f (answer (negsuc 0) ∷ rest)) callers))) (Next (running p (advanced f (answer (negsuc 1) ∷ rest)) callers)))
-        by_recipient true = by_room (nat_lt (length p.outbox) outbox_limit)
-        by_recipient false = on_here (answer (negsuc 1) ∷ rest)
+    send_falls rest to bytes = on_here (of_signed (sent world p.outbox to (message_of bytes)).0 ∷ rest)
 
     free_falls : (w : ℕ) (rest : List ℕ) → Falls now (free p f callers w rest)
     free_falls zero rest = on_here rest
-    free_falls (suc a) rest = by_test (option_map_or (is_heap_start (suc a)) (find (reaches (suc a)) p.rows) false)
+    free_falls (suc a) rest = by_test (is_heap_object p.rows (suc a))
       where
         by_test : (b : Bool) → Falls now (cond b (Next (running (without_object p (suc a)) (advanced f rest) callers)) (trap BadFree p))
         by_test true = on_here rest

@@ -3,7 +3,7 @@ use Rattle.std.proofs.Common.{◌≡◌, ◌∙◌, refl, ap, sym, subst, ℕ, z
 use Rattle.lu_base.specs.declared.trap.Trap.{Trap}
 use Rattle.lu_base.specs.declared.trap.Trap.TheVariants.{Budget}
 use Rattle.bm_code.specs.declared.code.MachineCode.{MachineCode}
-use Rattle.bm_code.specs.declared.world.World.{World}
+use Rattle.lu_base.specs.declared.world.World.{World}
 use Rattle.bm_code.specs.Process.{Process}
 use Rattle.bm_code.specs.Transfers.{Effect, Next, Spends, Returns, Traps}
 use Rattle.bm_code.specs.Step.{step_instruction}

@@ -9,3 +9,8 @@ pub mod Step
 pub mod Run
 pub mod Measure
 pub mod Laws
+pub mod Accepted
+pub mod Globals
+pub mod Calls
+pub mod Mapped
+pub mod Ran

@@ -1,13 +1,9 @@
 -- What a process is made of.
-use Rattle.std.specs.Prelude.{ℕ, ℤ, List, Option}
-use Rattle.lu_base.specs.declared.message.Message.{Message}
+use Rattle.std.specs.Prelude.{ℕ, List, Option}
 use Rattle.lu_base.specs.declared.trap.Trap.{Trap}
+use Rattle.lu_base.specs.Sending.{Sent}
 use Rattle.bm_mem.specs.Content.{Content}
 use Rattle.bm_objects.specs.declared.row.Row.{Row}
-
--- a call has 1,000,000 ticks
-abbrev pub call_ticks : ℕ
-call_ticks = 1000000
 
 -- a function under way: the place of its next instruction, its locals, and its operand stack with the top first
 pub record Frame : Type 0 where
@@ -28,6 +24,6 @@ pub record Process : Type 0 where
   pub content : Content
   pub rows : List Row
   pub next : ℕ
-  pub outbox : List (ℤ × Message)
+  pub outbox : List Sent
   pub activity : Activity
   pub spare : ℕ

@@ -1,54 +1,54 @@
 -- Allocation, messages and panics.
-use Rattle.std.specs.Prelude.{ℕ, zero, suc, ◌+◌, ◌*◌, ◌%◌, ◌^◌, Bool, true, false, ◌&&◌, ◌||◌, nat_eq, nat_lt, nat_le, if◌then◌else◌, ℤ, pos, negsuc, int_le, List, [], ◌∷◌, ◌++◌, length, take, drop, replicate, Option, Some, None, is_some, find, slice_get}
-use Rattle.std.specs.List.{list_any}
+use Rattle.std.specs.Prelude.{ℕ, zero, suc, ◌+◌, ◌*◌, ◌%◌, ◌^◌, Bool, true, false, ◌&&◌, nat_eq, nat_lt, if◌then◌else◌, ℤ, List, [], ◌∷◌, ◌++◌, length, take, drop, replicate, Option, Some, None, is_some, find, slice_get}
 use Rattle.std.specs.Option.{option_map_or}
 use Rattle.std.specs.Int.{w32, cast_signed}
 use Rattle.std.specs.FinMap as map
 use Rattle.lu_spec.specs.Then.{then_option}
+use Rattle.lu_base.specs.declared.limits.TheConstants.{MESSAGE_BYTES}
 use Rattle.lu_base.specs.declared.message.Message.{Message}
 use Rattle.lu_base.specs.declared.trap.Trap.TheVariants.{BadCode, BadFree, Panic as Panics}
+use Rattle.lu_base.specs.declared.world.World.{World}
+use Rattle.lu_base.specs.Addresses.{address_after, heap_part, has_room}
+use Rattle.lu_base.specs.Sending.{Sent, sent}
 use Rattle.c_types.specs.Layout.{size_of}
 use Rattle.bm_objects.specs.declared.row.Row.{Row}
-use Rattle.bm_objects.specs.Table.{reaches, killed, address_after}
+use Rattle.bm_objects.specs.Table.{reaches, killed}
 use Rattle.bm_alu.specs.Words.{signed, of_signed}
 use Rattle.bm_code.specs.declared.code.MachineCode.{MachineCode}
 use Rattle.bm_code.specs.declared.operation.Service.{Service}
 use Rattle.bm_code.specs.declared.operation.Service.TheVariants.{Allocate, Free, Send, Panic}
-use Rattle.bm_code.specs.declared.world.World.{World}
 use Rattle.bm_code.specs.Process.{Frame, Process}
 use Rattle.bm_code.specs.Frames.{some_or, on_top, advanced}
 use Rattle.bm_code.specs.Access.{read_at, number_of}
 use Rattle.bm_code.specs.Transfers.{Effect, Next, trap, running}
 
--- how many bytes the live objects of the heap have
-abbrev pub heap_part : Row → ℕ
-heap_part r = if r.live && is_some r.site then r.size else 0
+-- a live object of the heap
+abbrev pub is_live_heap : Row → Bool
+is_live_heap r = r.live && is_some r.site
 
+-- what an object adds to the bytes of the live heap
+abbrev pub heap_part_of : Row → ℕ
+heap_part_of r = heap_part (is_live_heap r) r.size
+
+-- how many bytes the live objects of the heap have
 abbrev pub heap_bytes : List Row → ℕ
 heap_bytes [] = 0
-heap_bytes (r ∷ rows) = heap_part r + heap_bytes rows
-
-abbrev pub heap_limit : ℕ
-heap_limit = 4194304
-
-abbrev pub address_limit : ℕ
-address_limit = 0xF0000000
+heap_bytes (r ∷ rows) = heap_part_of r + heap_bytes rows
 
 -- so many new elements of a site's type, at the next address
 abbrev pub new_row : MachineCode → ℕ → ℕ → ℕ → ℕ → Row
 new_row code next site elem count =
     record { addr = next; elem = elem; count = count; size = count * size_of code.types elem; site = Some site; live = true }
 
--- the count is at least 1, the heap may have it, and the next address stays below its limit
+-- the count is at least 1, and the live heap and the addresses have room for it
 abbrev pub can_allocate : List Row → Row → Bool
-can_allocate rows r =
-    nat_lt 0 r.count && (nat_le (heap_bytes rows + r.size) heap_limit && nat_le (address_after r) address_limit)
+can_allocate rows r = nat_lt 0 r.count && has_room (heap_bytes rows) r.addr r.size
 
 abbrev pub with_object : Process → Row → Process
 with_object p r = record p {
   content = map.insert p.content r.addr (replicate r.size 0);
   rows = p.rows ++ r ∷ [];
-  next = address_after r;
+  next = address_after r.addr r.size;
 }
 
 -- null where it can't be
@@ -58,7 +58,11 @@ allocate p f callers rest r =
 
 -- a live object of the heap that begins at the address
 abbrev pub is_heap_start : ℕ → Row → Bool
-is_heap_start a r = nat_eq r.addr a && (r.live && is_some r.site)
+is_heap_start a r = nat_eq r.addr a && is_live_heap r
+
+-- whether one begins there
+abbrev pub is_heap_object : List Row → ℕ → Bool
+is_heap_object rows a = option_map_or (is_heap_start a) (find (reaches a) rows) false
 
 abbrev pub without_object : Process → ℕ → Process
 without_object p a = record p { content = map.remove p.content a; rows = killed p.rows a }
@@ -66,7 +70,7 @@ without_object p a = record p { content = map.remove p.content a; rows = killed 
 abbrev pub free : Process → Frame → List Frame → ℕ → List ℕ → Effect
 free p f callers zero rest = Next (running p (advanced f rest) callers)
 free p f callers (suc a) rest =
-    if option_map_or (is_heap_start (suc a)) (find (reaches (suc a)) p.rows) false then Next (running (without_object p (suc a)) (advanced f rest) callers) else trap BadFree p
+    if is_heap_object p.rows (suc a) then Next (running (without_object p (suc a)) (advanced f rest) callers) else trap BadFree p
 
 -- an int of 4 bytes
 abbrev pub int_of : List ℕ → ℤ
@@ -77,30 +81,22 @@ abbrev pub ints_of : ℕ → List ℕ → List ℤ
 ints_of zero bytes = []
 ints_of (suc n) bytes = int_of bytes ∷ ints_of n (drop 4 bytes)
 
--- The message of 32 bytes: its source, which the sender's number replaces, its type, and six arguments.
-abbrev pub message_of : ℤ → List ℕ → Message
-message_of own bytes = record { source = own; kind = int_of (drop 4 bytes); arg = ints_of 6 (drop 8 bytes) }
+-- The message of these bytes: its source, which the sender's number replaces, its type, and six arguments.
+abbrev pub message_of : List ℕ → Message
+message_of bytes = record { source = int_of bytes; kind = int_of (drop 4 bytes); arg = ints_of 6 (drop 8 bytes) }
 
 -- the bytes of the outgoing message, which is the second global
 abbrev pub message_bytes : MachineCode → Process → Option (List ℕ)
 message_bytes code p =
-    then_option (slice_get code.globals 1) (λ g. if nat_lt (length g.bytes) 32 then None else then_option (slice_get p.rows 1) (λ r. read_at p.content p.rows r.addr 32))
+    then_option (slice_get code.globals 1) (λ g. if nat_lt (length g.bytes) MESSAGE_BYTES then None else then_option (slice_get p.rows 1) (λ r. read_at p.content p.rows r.addr MESSAGE_BYTES))
 
--- the number of a server or of a client
-abbrev pub is_recipient : World → ℤ → Bool
-is_recipient world to = list_any (λ server. int_le server to && int_le to server) world.servers || (int_le (pos 100) to && int_le to (pos 999))
-
--- how many messages are kept until they leave
-abbrev pub outbox_limit : ℕ
-outbox_limit = 16
-
--- the answer as a word: -2 to no recipient, -1 where no more may be sent, else 0
-abbrev pub answer : ℤ → ℕ
-answer z = of_signed z
+-- the program gets the answer as a word, and the outbox is the sends after it
+abbrev pub answered : Process → Frame → List Frame → List ℕ → ℤ × List Sent → Effect
+answered p f callers rest answer =
+    Next (running (record p { outbox = answer.1 }) (advanced f (of_signed answer.0 ∷ rest)) callers)
 
 abbrev pub send : World → Process → Frame → List Frame → List ℕ → ℤ → List ℕ → Effect
-send world p f callers rest to bytes =
-    if is_recipient world to then (if nat_lt (length p.outbox) outbox_limit then Next (running (record p { outbox = p.outbox ++ (to, message_of world.own bytes) ∷ [] }) (advanced f (answer (pos 0) ∷ rest)) callers) else Next (running p (advanced f (answer (negsuc 0) ∷ rest)) callers)) else Next (running p (advanced f (answer (negsuc 1) ∷ rest)) callers)
+send world p f callers rest to bytes = answered p f callers rest (sent world p.outbox to (message_of bytes))
 
 abbrev pub served : Service → MachineCode → World → Process → Frame → List Frame → Effect
 served (Allocate site) code world p f callers =

@@ -6,7 +6,7 @@ use Rattle.bm_mem.specs.Content.{Content}
 use Rattle.bm_alu.specs.Words.{combined, transformed}
 use Rattle.bm_code.specs.declared.code.MachineCode.{MachineCode}
 use Rattle.bm_code.specs.declared.code.MachineFunction.{MachineFunction}
-use Rattle.bm_code.specs.declared.world.World.{World}
+use Rattle.lu_base.specs.declared.world.World.{World}
 use Rattle.bm_code.specs.declared.operation.Operation.{Operation}
 use Rattle.bm_code.specs.declared.operation.Operation.TheVariants.{OnStack, OnWord, OnWords, OnPointers, Reads, Writes, Transfers, Serves}
 use Rattle.bm_code.specs.Kinds.{operation_of}

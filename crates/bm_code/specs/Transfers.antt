@@ -1,5 +1,6 @@
 -- Jumps, calls and returns.
 use Rattle.std.specs.Prelude.{ℕ, zero, suc, ◌+◌, ◌-◌, Bool, nat_eq, nat_lt, nat_le, if◌then◌else◌, List, [], ◌∷◌, ◌++◌, length, replicate, Option, Some, None, slice_get, unwrap_or, option_to_list}
+use Rattle.lu_base.specs.declared.limits.TheConstants.{FRAMES}
 use Rattle.lu_base.specs.declared.trap.Trap.{Trap}
 use Rattle.lu_base.specs.declared.trap.Trap.TheVariants.{BadCode, BadCall, Depth}
 use Rattle.c_types.specs.declared.parts.Signature.{Signature}
@@ -51,13 +52,9 @@ abbrev pub has_room : MachineFunction → Option ℕ → List ℕ → Bool
 has_room m None rest = nat_le (length rest) m.height
 has_room m (Some t) rest = nat_lt (length rest) m.height
 
--- how many functions may be under way
-abbrev pub frame_limit : ℕ
-frame_limit = 128
-
 abbrev pub enter : MachineFunction → Process → Frame → List Frame → ℕ → MachineFunction → Signature → List ℕ × List ℕ → Effect
 enter m p f callers g d s split =
-    if has_room m s.result split.1 then (if nat_lt (length callers + 1) frame_limit then Spends (running p (entered d g split.0) (moved f (f.place + 1) split.1 ∷ callers)) else trap Depth p) else trap BadCode p
+    if has_room m s.result split.1 then (if nat_lt (length callers + 1) FRAMES then Spends (running p (entered d g split.0) (moved f (f.place + 1) split.1 ∷ callers)) else trap Depth p) else trap BadCode p
 
 -- a call of the function g, where `arguments` gives the arguments and the words below, if they are as many as the signature says
 abbrev pub call : MachineCode → MachineFunction → Process → Frame → List Frame → ℕ → (Signature → Option (List ℕ × List ℕ)) → Effect

@@ -3,7 +3,7 @@
 ghost use Rattle.bm_code.specs.Laws.{AlwaysEnd, Compose, EndInOneWay};
 
 use crate::code::MachineCode;
-use crate::world::World;
+use lu_base::World;
 
 /// A run that pauses and a further run are one run of as many ticks, each run ends, and in one way only.
 pub fn runs(code: &MachineCode, world: &World)

@@ -5,4 +5,4 @@
 pub mod code;
 pub mod laws;
 pub mod operation;
-pub mod world;
+pub mod stop;

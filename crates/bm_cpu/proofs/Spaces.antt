@@ -7,13 +7,14 @@ use Rattle.std.proofs.lemmas.List.{length-replicate}
 use Rattle.std.proofs.lemmas.List.Elements.{All-push}
 use Rattle.lu_spec.specs.Splice.{spliced}
 use Rattle.lu_spec.proofs.SpliceLemmas.{length-spliced}
+use Rattle.lu_base.specs.Addresses.{address_after}
 use Rattle.c_types.specs.declared.parts.Parts.{Parts}
 use Rattle.bm_mem.specs.Content.{Content, Holds, IsInside, IsWritten}
 use Rattle.bm_mem.proofs.Laws.{get-insert_there, get-insert_else}
 use Rattle.bm_objects.specs.declared.row.Row.{Row}
-use Rattle.bm_objects.specs.Table.{end_of, IsTable, address_after, next_address}
-use Rattle.bm_code.specs.Services.{heap_part, heap_bytes}
-use Rattle.bm_frame.specs.Mapped.{HasObject, IsOfRow, IsMapped, AreKnown}
+use Rattle.bm_objects.specs.Table.{end_of, IsTable, next_address}
+use Rattle.bm_code.specs.Services.{heap_part_of, heap_bytes}
+use Rattle.bm_code.specs.Mapped.{HasObject, IsOfRow, IsMapped, AreKnown}
 use Rattle.bm_frame.proofs.Copying.{insert_twice}
 use Rattle.bm_frame.proofs.Written.{still_mapped}
 use Rattle.bm_serve.specs.Space.{IsSpace}
@@ -78,21 +79,21 @@ module _ (types : Parts) (m : Content) (rows : List Row) (next used : ℕ) (spac
         by_case (inl old) = space.known k x old
         by_case (inr same) = subst (λ y. y.elem < length types.types) same known
 
-    lower : All (λ y. end_of y < address_after r) rows
+    lower : All (λ y. end_of y < address_after r.addr r.size) rows
     lower k d lt = omega (arith, above k d lt, after_end r)
 
-    pub space_more : (n : Content) (rows' : List Row) (next' used' : ℕ) → n ≡ insert m r.addr zeros → rows' ≡ more → next' ≡ address_after r → used' ≡ used + heap_part r → IsTable rows' → IsSpace types n rows' next' used'
+    pub space_more : (n : Content) (rows' : List Row) (next' used' : ℕ) → n ≡ insert m r.addr zeros → rows' ≡ more → next' ≡ address_after r.addr r.size → used' ≡ used + heap_part_of r → IsTable rows' → IsSpace types n rows' next' used'
     space_more n rows' next' used' e f g h table =
         subst (λ n. IsSpace types n rows' next' used') (sym e) (subst (λ l. IsSpace types (insert m r.addr zeros) l next' used') (sym f) (subst (λ k. IsSpace types (insert m r.addr zeros) more k used') (sym g) whole))
       where
         sum : used' ≡ heap_bytes more
         sum = omega (arith, h, heap_added rows r, space.used_is)
 
-        whole : IsSpace types (insert m r.addr zeros) more (address_after r) used'
+        whole : IsSpace types (insert m r.addr zeros) more (address_after r.addr r.size) used'
         whole = record {
           mapped = record { live = each_live; only = each_only };
           known = each_known;
-          above = All-push (λ y. end_of y < address_after r) rows r lower (after_end r);
+          above = All-push (λ y. end_of y < address_after r.addr r.size) rows r lower (after_end r);
           used_is = sum;
           used_low = omega (arith, sum, heap_low more (subst IsTable f table));
           next_low = omega (arith, low, after_low r);

@@ -1,4 +1,2 @@
-pub mod Accepted
-pub mod Globals
 pub mod State
 pub mod Words

@@ -3,12 +3,11 @@ ghost use Rattle.std.specs.Prelude.{◌≡◌, length, map, replicate, pos, IfOk
 ghost use Rattle.src_model.specs.First.{IsActWithin, AreActsWithin, IsOperandWithin, IsTargetWithin, operand_value, combined, delivered, globals_after, out_after, with_sent, after_act};
 ghost use Rattle.bm_cpu.specs.Words.{word_value, progress_of};
 
+use lu_base::limits::SENDS;
 use lu_base::{Memory, Message};
 use src_model::first::{Act, Op, Operand, Straight, Target};
 use std::alloc::Global;
 use std::marker::Model;
-
-const MAX_SENDS: usize = 16;
 
 /// A straight-line server in memory: four little-endian bytes for each global.
 #[derive(Debug, Drop)]
@@ -154,7 +153,7 @@ fn assign(globals: &mut [[u8; 4]], reply: &mut Message, target: Target, value: i
 fn send(out: &mut Vec<Message>, reply: Message) -> Result<(), Memory>
     ensures { OnOk result (out.new.items ≡ with_sent reply out.old.items) }
 {
-    if out.len() < MAX_SENDS {
+    if out.len() < SENDS {
         out.push(reply)?;
     }
     Ok(())

@@ -7,5 +7,5 @@ pub mod machine;
 mod objects;
 
 pub use bm_code::code::{MachineCode, MachineFunction, MachineGlobal, MachineSite};
-pub use bm_run::calls::Stop;
+pub use bm_code::stop::Stop;
 pub use machine::Machine;

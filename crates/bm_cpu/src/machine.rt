@@ -4,33 +4,31 @@ ghost use Rattle.std.specs.Prelude.{◌≡◌, ◌<◌, ◌^◌, true, false, []
 ghost use Rattle.std.specs.FinMap.{empty};
 ghost use Rattle.bm_mem.specs.Content.{IsInside, IsWritten};
 ghost use Rattle.bm_objects.specs.Table.{end_of, next_address};
-ghost use Rattle.bm_frame.specs.Mapped.{IsMapped, AreKnown};
+ghost use Rattle.bm_code.specs.Mapped.{IsMapped, AreKnown};
 ghost use Rattle.bm_run.specs.declared.calls.Mode.TheVariants as M;
-ghost use Rattle.bm_run.specs.Came.{IsRun};
-ghost use Rattle.bm_serve.specs.Space.{is_heap_object};
-ghost use Rattle.bm_code.specs.Services.{with_object, without_object};
-ghost use Rattle.bm_cpu.specs.Accepted.{IsAccepted, HasParameters};
-ghost use Rattle.bm_cpu.specs.Globals.{idle_process, initial_process};
-ghost use Rattle.bm_cpu.specs.State.{is_running, with_process, with_content, started, without_sends, no_world};
+ghost use Rattle.bm_code.specs.Ran.{IsRun};
+ghost use Rattle.bm_code.specs.Services.{is_heap_object, with_object, without_object};
+ghost use Rattle.bm_code.specs.Accepted.{IsAccepted, HasParameters};
+ghost use Rattle.bm_code.specs.Globals.{idle_process, initial_process};
+ghost use Rattle.bm_code.specs.Calls.{is_running, started, with_content, without_sends};
+ghost use Rattle.bm_cpu.specs.State.{with_process, no_world};
 
-use crate::objects::{FIRST_ADDRESS, heap_bytes, next_address, put_globals, put_object};
+use crate::objects::{heap_bytes, next_address, put_globals, put_object};
 use bm_code::code::MachineCode;
-use bm_code::world::World;
+use bm_code::stop::Stop;
 use bm_frame::frame::Frame;
 use bm_mem::Bytes;
 use bm_objects::{Objects, Row};
 use bm_run::callers::Callers;
-use bm_run::calls::{Calls, Mode, Stop};
+use bm_run::calls::{Calls, Mode};
 use bm_serve::outbox::Outbox;
 use bm_serve::space::{Space, free};
 use bm_step::run::run;
 use c_types::Sequence;
-use lu_base::{Memory, Message};
+use lu_base::limits::{CALL_TICKS, FIRST_ADDRESS};
+use lu_base::{Memory, Message, World};
 use std::alloc::Global;
 use std::marker::Model;
-
-/// How many ticks a call may use.
-const CALL_TICKS: u32 = 1_000_000;
 
 /// A process in memory, the code that it runs, and the numbers that `send` goes by, which is what contracts see. Room for
 /// frames, operand stacks and the outbox is made at once.
@@ -47,7 +45,7 @@ impl<'a, B: Bytes> Model for Machine<'a, B> {
     ghost use Rattle.std.specs.Coded.{codes};
     ghost use Rattle.bm_run.specs.View.{process_in};
     ghost use Rattle.bm_serve.specs.Space.{IsSpace};
-    ghost use Rattle.bm_cpu.specs.Accepted.{IsAccepted};
+    ghost use Rattle.bm_code.specs.Accepted.{IsAccepted};
     ghost use Rattle.bm_cpu.specs.State.{MachineState, content_code};
 
     ghost Value = { MachineState };
@@ -82,9 +80,8 @@ fn no_world(alloc: Global) -> World
 }
 
 impl<'a, B: Bytes> Machine<'a, B> {
-    /// The machine of a program at its start: the globals are mapped with their initial bytes, the first at 0x1000 and
-    /// each other 16 bytes or more behind the one before, at a multiple of 16. No call runs. On `Memory` the memory is
-    /// dropped.
+    /// The machine of a program at its start: the globals are mapped with their initial bytes, each at
+    /// the address behind the one before. No call runs. On `Memory` the memory is dropped.
     pub fn new(alloc: Global, code: &'a MachineCode, mem: B) -> Result<Self, Memory>
         requires accepted { IsAccepted code.now }
         requires fresh { B.content mem ≡ empty }

@@ -2,39 +2,30 @@
 
 ghost use Rattle.std.specs.Prelude.{◌≡◌, ◌+◌, ◌*◌, ◌<◌, ◌≤◌, ◌^◌, ◌++◌, [], ◌∷◌, true, length, replicate, All, OnOk, OnErr};
 ghost use Rattle.std.specs.FinMap.{insert};
-ghost use Rattle.bm_objects.specs.Table.{IsTable, end_of, address_after, next_address};
-ghost use Rattle.bm_code.specs.Services.{heap_part, heap_bytes};
+ghost use Rattle.bm_objects.specs.Table.{IsTable, end_of, next_address};
+ghost use Rattle.lu_base.specs.Addresses.{address_after};
+ghost use Rattle.bm_code.specs.Services.{heap_part_of, heap_bytes};
 ghost use Rattle.bm_serve.specs.Space.{IsSpace};
-ghost use Rattle.bm_cpu.specs.Accepted.{IsAccepted, IsAcceptedGlobal, global_bytes};
-ghost use Rattle.bm_cpu.specs.Globals.{elements_of, global_row, no_objects, with_global, with_globals};
+ghost use Rattle.bm_code.specs.Accepted.{IsAccepted, IsAcceptedGlobal, global_bytes};
+ghost use Rattle.bm_code.specs.Globals.{elements_of, global_row, no_objects, with_global, with_globals};
 
 use bm_code::code::{MachineCode, MachineGlobal};
 use bm_mem::Bytes;
 use bm_objects::{Objects, Row};
-use bm_serve::space::Space;
+use bm_serve::space::{Space, address_after};
 use c_types::{Ty, TyId};
 use lu_base::Memory;
-
-/// The address of the first object.
-pub(crate) const FIRST_ADDRESS: u64 = 0x1000;
+use lu_base::limits::FIRST_ADDRESS;
 
 /// The bytes of the heap that an object has.
 fn heap_part(row: Row) -> u32
-    ensures { result ≡ heap_part row }
+    ensures { result ≡ heap_part_of row }
 {
     if row.live && row.site.is_some() {
         row.size
     } else {
         0
     }
-}
-
-/// The address of the object after one.
-fn address_after(row: Row) -> u64
-    requires { end_of row < 2 ^ 32 }
-    ensures { result ≡ address_after row }
-{
-    (row.addr as u64 + row.size as u64 + 16 + 15) / 16 * 16
 }
 
 /// Makes the zero object of a live row above all others, and puts the row last. On `Memory` all is as it was.
@@ -52,7 +43,7 @@ pub(crate) fn put_object<B: Bytes>(
     ensures space { IsSpace code.now.types (B.content space.new.memory) space.new.objects space.new.next space.new.used }
     ensures memory { OnOk result (B.content space.new.memory ≡ insert (B.content space.old.memory) row.addr (replicate row.size 0)) }
     ensures objects { OnOk result (space.new.objects ≡ space.old.objects ++ row ∷ []) }
-    ensures next { OnOk result (space.new.next ≡ address_after row) }
+    ensures next { OnOk result (space.new.next ≡ address_after row.addr row.size) }
     ensures kept { OnErr result ((B.content space.new.memory ≡ B.content space.old.memory) × (space.new.objects ≡ space.old.objects) × (space.new.next ≡ space.old.next)) }
 {
     let _code = code;
@@ -64,7 +55,7 @@ pub(crate) fn put_object<B: Bytes>(
         return Err(Memory);
     };
     let _count = space.objects.len();
-    space.next = address_after(row);
+    space.next = address_after(row.addr as u64, row.size as u64);
     space.used += heap_part(row) as u64;
     Ok(())
 }
@@ -143,7 +134,8 @@ pub(crate) fn next_address(objects: &Objects) -> u64
     if count == 0 {
         FIRST_ADDRESS
     } else {
-        address_after(objects.row(count - 1))
+        let last = objects.row(count - 1);
+        address_after(last.addr as u64, last.size as u64)
     }
 }
 

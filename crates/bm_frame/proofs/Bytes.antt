@@ -13,7 +13,7 @@ use Rattle.bm_objects.specs.declared.row.Row.{Row}
 use Rattle.bm_objects.specs.Table.{end_of, reaches}
 use Rattle.bm_objects.proofs.TableLemmas.{found, reaches_is}
 use Rattle.bm_code.specs.Access.{live_at, read_at, number_of}
-use Rattle.bm_frame.specs.Mapped.{HasObject, IsMapped}
+use Rattle.bm_code.specs.Mapped.{HasObject, IsMapped}
 
 eight : (bs : List ℕ) → length bs ≡ 8 → from_le_bytes w64 bs ≡ number_of bs
 eight (a ∷ b ∷ c ∷ d ∷ e ∷ f ∷ g ∷ h ∷ []) n = omega arith

@@ -21,7 +21,7 @@ use Rattle.bm_code.specs.Process.{Frame}
 use Rattle.bm_code.specs.Frames.{some_or, on_two, bad}
 use Rattle.bm_code.specs.Access.{live_at, read_at, changed, written_at, number_of, Scalar, scalars, scalar_size}
 use Rattle.bm_code.specs.Pointers.{with_member, with_active, wrote, written}
-use Rattle.bm_frame.specs.Mapped.{HasObject, IsOfRow, IsMapped, or_bad}
+use Rattle.bm_code.specs.Mapped.{HasObject, IsOfRow, IsMapped, or_bad}
 use Rattle.bm_frame.proofs.Bytes.{row, bytes, got, holds, piece_there, piece_long, zero_bytes}
 use Rattle.bm_frame.proofs.Copying.{IsCopied, holds_part, insert_twice, target}
 

@@ -1,4 +1,3 @@
 pub mod View
-pub mod Mapped
 pub mod Signs
 pub mod Start

@@ -1,6 +1,7 @@
 // The instructions that concern a frame alone.
 
 ghost use Rattle.std.specs.Prelude.{◌≡◌, ◌+◌, ◌<◌, ◌≤◌, ◌^◌, [], ◌∷◌, ℕ};
+ghost use Rattle.lu_base.specs.declared.limits.TheConstants.{STACK_HEIGHT};
 ghost use Rattle.bm_alu.specs.Words.{combined, transformed};
 ghost use Rattle.bm_code.specs.Frames.{pushed, with_local, stacked, on_word, on_words};
 ghost use Rattle.bm_code.specs.declared.operation.Stacking.TheVariants as S;
@@ -15,7 +16,7 @@ use lu_base::Trap;
 #[inline]
 fn push(height: u32, frame: &mut Frame, word: u64) -> Result<(), Trap>
     requires place { frame.old.place + 1 < 2 ^ 64 }
-    requires height { height ≤ 4096 }
+    requires height { height ≤ STACK_HEIGHT }
     ensures { Leaves result (pushed height (frame_of frame.old) word) (frame_of frame.new) }
 {
     if frame.stack.len() < height as usize {
@@ -29,7 +30,7 @@ fn push(height: u32, frame: &mut Frame, word: u64) -> Result<(), Trap>
 
 fn get_local(height: u32, frame: &mut Frame, local: u32) -> Result<(), Trap>
     requires place { frame.old.place + 1 < 2 ^ 64 }
-    requires height { height ≤ 4096 }
+    requires height { height ≤ STACK_HEIGHT }
     ensures { Leaves result (stacked (S.GetLocal local) height (frame_of frame.old)) (frame_of frame.new) }
 {
     match frame.locals.get(local) {
@@ -66,7 +67,7 @@ fn pop(height: u32, frame: &mut Frame) -> Result<(), Trap>
 
 fn duplicate(height: u32, frame: &mut Frame) -> Result<(), Trap>
     requires place { frame.old.place + 1 < 2 ^ 64 }
-    requires height { height ≤ 4096 }
+    requires height { height ≤ STACK_HEIGHT }
     ensures { Leaves result (stacked S.Duplicate height (frame_of frame.old)) (frame_of frame.new) }
 {
     match frame.stack.top() {
@@ -95,7 +96,7 @@ fn swap(height: u32, frame: &mut Frame) -> Result<(), Trap>
 #[inline]
 pub fn step_stack(operation: Stacking, height: u32, frame: &mut Frame) -> Result<(), Trap>
     requires place { frame.old.place + 1 < 2 ^ 64 }
-    requires height { height ≤ 4096 }
+    requires height { height ≤ STACK_HEIGHT }
     ensures { Leaves result (stacked operation height (frame_of frame.old)) (frame_of frame.new) }
 {
     match operation {

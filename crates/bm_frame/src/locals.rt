@@ -1,13 +1,12 @@
 // Locals of a function.
 
 ghost use Rattle.std.specs.Prelude.{◌≡◌, ◌<◌, ◌≤◌, ◌-◌, ◌++◌, [], length, replicate, IfOk, slice_get, slice_set, IsTrue, MatchBool};
+ghost use Rattle.lu_base.specs.declared.limits.TheConstants.{LOCALS};
 
 use lu_base::Memory;
+use lu_base::limits::LOCALS;
 use std::alloc::Global;
 use std::marker::Model;
-
-/// How many locals a function may have.
-pub const GREATEST_COUNT: usize = 256;
 
 /// The locals of a function, which contracts see as the list of their words. Their room is made at once.
 #[derive(Drop)]
@@ -17,12 +16,13 @@ pub struct Locals {
 
 impl Model for Locals {
     ghost use Rattle.std.specs.Prelude.{◌≤◌, List, ℕ, vec_capacity, length};
+    ghost use Rattle.lu_base.specs.declared.limits.TheConstants.{LOCALS};
 
     ghost Value = { List ℕ };
 
     ghost view = { λ s. s.words.items };
 
-    ghost invariant = { λ s. (256 ≤ vec_capacity s.words) × (length s.words.items ≤ 256) };
+    ghost invariant = { λ s. (LOCALS ≤ vec_capacity s.words) × (length s.words.items ≤ LOCALS) };
 }
 
 impl Locals {
@@ -30,7 +30,7 @@ impl Locals {
         ensures { IfOk result (λ locals. locals ≡ []) }
     {
         Ok(Locals {
-            words: Vec::with_capacity(alloc, GREATEST_COUNT)?,
+            words: Vec::with_capacity(alloc, LOCALS)?,
         })
     }
 
@@ -57,8 +57,8 @@ impl Locals {
 
     /// These words, and then zeros up to a count.
     pub fn fill(&mut self, words: &[u64], count: u32)
-        requires words { length words.now ≤ 256 }
-        requires count { count ≤ 256 }
+        requires words { length words.now ≤ LOCALS }
+        requires count { count ≤ LOCALS }
         ensures { self.new ≡ words.now ++ replicate (count - length words.now) 0 }
     {
         self.words.clear();
@@ -73,7 +73,7 @@ impl Locals {
 
     pub fn words(&self) -> &[u64]
         ensures value { result.now ≡ self.now }
-        ensures bound { length self.now ≤ 256 }
+        ensures bound { length self.now ≤ LOCALS }
     {
         self.words.as_slice()
     }

@@ -11,7 +11,7 @@ ghost use Rattle.bm_code.specs.Frames.{on_word};
 ghost use Rattle.bm_code.specs.Pointers.{read, checked};
 ghost use Rattle.bm_code.specs.declared.operation.Reading.TheVariants as R;
 ghost use Rattle.bm_frame.specs.View.{frame_of, Leaves};
-ghost use Rattle.bm_frame.specs.Mapped.{IsMapped, AreKnown};
+ghost use Rattle.bm_code.specs.Mapped.{IsMapped, AreKnown};
 
 use crate::frame::Frame;
 use crate::pointer::find_row;

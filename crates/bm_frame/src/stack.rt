@@ -1,14 +1,16 @@
 // Operand stacks of bounded height.
 
-ghost use Rattle.std.specs.Prelude.{◌≡◌, ◌<◌, ◌≤◌, [], ◌∷◌, length, drop, MatchOption, IfOk, Some, slice_get};
+ghost use Rattle.std.specs.Prelude.{◌≡◌, ◌+◌, ◌≤◌, [], ◌∷◌, length, drop, MatchOption, IfOk, Some, slice_get};
+ghost use Rattle.lu_base.specs.declared.limits.TheConstants.{STACK_HEIGHT};
 ghost use Rattle.bm_code.specs.Transfers.{pop_words};
 
 use lu_base::Memory;
+use lu_base::limits::STACK_HEIGHT;
 use std::alloc::Global;
 use std::marker::Model;
 
 /// How many words an operand stack has room for: the greatest height of a function, and a result that is given back.
-pub const STACK_ROOM: usize = 4097;
+const STACK_ROOM: usize = STACK_HEIGHT as usize + 1;
 
 /// An operand stack, which contracts see as its words with the top first. Its room is made at once.
 #[derive(Drop)]
@@ -17,13 +19,14 @@ pub struct Stack {
 }
 
 impl Model for Stack {
-    ghost use Rattle.std.specs.Prelude.{◌≡◌, List, ℕ, reverse, vec_capacity, ◌≤◌, length};
+    ghost use Rattle.std.specs.Prelude.{◌≡◌, ◌+◌, List, ℕ, reverse, vec_capacity, ◌≤◌, length};
+    ghost use Rattle.lu_base.specs.declared.limits.TheConstants.{STACK_HEIGHT};
 
     ghost Value = { List ℕ };
 
     ghost view = { λ s. reverse s.words.items };
 
-    ghost invariant = { λ s. (vec_capacity s.words ≡ 4097) × (length s.words.items ≤ 4097) };
+    ghost invariant = { λ s. (vec_capacity s.words ≡ STACK_HEIGHT + 1) × (length s.words.items ≤ STACK_HEIGHT + 1) };
 }
 
 impl Stack {
@@ -38,7 +41,7 @@ impl Stack {
     #[inline]
     pub fn len(&self) -> usize
         ensures count { result ≡ length self.now }
-        ensures bound { result ≤ 4097 }
+        ensures bound { result ≤ STACK_HEIGHT + 1 }
     {
         self.words.len()
     }
@@ -63,14 +66,14 @@ impl Stack {
     #[inline]
     pub fn pop(&mut self) -> Option<u64>
         ensures words { MatchOption result ((self.old ≡ []) × (self.new ≡ [])) (λ top. self.old ≡ top ∷ self.new) }
-        ensures room { MatchOption result (Unit {0}) (λ top. length self.new < 4097) }
+        ensures room { MatchOption result (Unit {0}) (λ top. length self.new ≤ STACK_HEIGHT) }
     {
         self.words.pop()
     }
 
     #[inline]
     pub fn push(&mut self, word: u64)
-        requires { length self.old < 4097 }
+        requires { length self.old ≤ STACK_HEIGHT }
         ensures { self.new ≡ word ∷ self.old }
     {
         self.words.push_reserved(word);

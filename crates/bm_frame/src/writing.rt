@@ -11,7 +11,7 @@ ghost use Rattle.lu_spec.specs.LittleEndian.{little_endian};
 ghost use Rattle.bm_code.specs.Pointers.{with_active, with_member, written};
 ghost use Rattle.bm_code.specs.declared.operation.Writing.TheVariants as W;
 ghost use Rattle.bm_frame.specs.View.{frame_of, Leaves};
-ghost use Rattle.bm_frame.specs.Mapped.{IsMapped, or_bad};
+ghost use Rattle.bm_code.specs.Mapped.{IsMapped, or_bad};
 
 use crate::frame::Frame;
 use crate::memory::{live_row, read_number, scalar_size};

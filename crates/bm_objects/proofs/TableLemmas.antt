@@ -7,10 +7,10 @@ use Rattle.std.proofs.lemmas.Bool.{cases_lt, cases_eq}
 use Rattle.std.proofs.lemmas.Bool.Decides.{nat_tests}
 use Rattle.std.proofs.lemmas.List.{get_or-map, get_or_read, same_lists, get_or-set_same, get_or-set_other, length-set, length-map}
 use Rattle.std.proofs.lemmas.Option.{slice_get_within, get_or_from_slice_get}
-use Rattle.std.proofs.lemmas.List.Elements.{All-push, All-nil, All-cons}
+use Rattle.std.proofs.lemmas.List.Elements.{All-push}
 use Rattle.std.proofs.lemmas.List.Quantifiers.{all_pairs_push}
 use Rattle.bm_objects.specs.declared.row.Row.{Row}
-use Rattle.bm_objects.specs.Table.{end_of, reaches, IsTable, killed_at, killed, address_after, next_from, IsPlacedFrom, next_address, IsPlaced}
+use Rattle.bm_objects.specs.Table.{end_of, reaches, IsTable, killed_at, killed}
 use Rattle.bm_objects.specs.Search.{IsLastUpTo, AllAbove}
 
 -- the addresses rise
@@ -144,30 +144,6 @@ module _ (rows : List Row) (t : IsTable rows) (addr i : ℕ) (row : Row) (last :
       by_place k d inside (inr differs) =
           get_or-set_other rows i k (record row { live = false }) d differs
           ∙ (sym (stays addr (get_or rows k d) (other_addr k d inside differs)) ∙ sym (get_or-map (killed_at addr) rows k d d inside))
-
--- the address of the next object is above the ends of all
-behind_end : (row : Row) → end_of row < address_after row
-behind_end row = omega arith
-
-next_rises : (first : ℕ) (rows : List Row) → IsPlacedFrom first rows → first ≤ next_from first rows
-next_rises first [] p = omega arith
-next_rises first (row ∷ rows) p = omega (arith, p.0, behind_end row, next_rises (address_after row) rows p.1)
-
-above_from : (first : ℕ) (rows : List Row) → IsPlacedFrom first rows → All (λ r. end_of r < next_from first rows) rows
-above_from first [] p = All-nil (λ r. end_of r < first)
-above_from first (row ∷ rows) p =
-    All-cons (λ r. end_of r < next_from (address_after row) rows) row rows (omega (arith, behind_end row, next_rises (address_after row) rows p.1)) (above_from (address_after row) rows p.1)
-
-pub next_is_above : (rows : List Row) → IsPlaced rows → All (λ r. end_of r < next_address rows) rows
-next_is_above rows p = above_from 0x1000 rows p
-
-placed_from : (first : ℕ) (rows : List Row) (row : Row) → IsPlacedFrom first rows → row.addr ≡ next_from first rows → IsPlacedFrom first (rows ++ row ∷ [])
-placed_from first [] row p e = (e, tt)
-placed_from first (r ∷ rows) row p e = (p.0, placed_from (address_after r) rows row p.1 e)
-
--- one more object at that address
-pub placed_pushed : (rows : List Row) (row : Row) → IsPlaced rows → row.addr ≡ next_address rows → IsPlaced (rows ++ row ∷ [])
-placed_pushed rows row p e = placed_from 0x1000 rows row p e
 
 -- what the binary search says
 pub last_from_partition : (rows : List Row) (addr count : ℕ) (o : Option ℕ) → IsPartitionPoint (λ row. nat_le row.addr addr ≡ true) (λ row. nat_le row.addr addr ≡ false) rows count → count ≤ length rows → SomeIff o (1 ≤ count) (count - 1) → MatchOption o (AllAbove rows addr) (IsLastUpTo rows addr)

@@ -1,6 +1,8 @@
 -- A table of objects, as the list of its rows.
-use Rattle.std.specs.Prelude.{◌≡◌, ℕ, ◌+◌, ◌*◌, ◌/◌, ◌<◌, ◌^◌, Bool, false, ◌&&◌, nat_le, if◌then◌else◌, ◌==◌, List, [], ◌∷◌, All, map}
+use Rattle.std.specs.Prelude.{ℕ, ◌+◌, ◌<◌, ◌^◌, Bool, false, ◌&&◌, nat_le, if◌then◌else◌, ◌==◌, List, [], ◌∷◌, All, map}
 use Rattle.std.specs.List.{AllPairs}
+use Rattle.lu_base.specs.declared.limits.TheConstants.{FIRST_ADDRESS}
+use Rattle.lu_base.specs.Addresses.{address_after}
 use Rattle.bm_objects.specs.declared.row.Row.{Row}
 
 -- the address behind the last byte
@@ -24,23 +26,11 @@ killed_at addr row = if row.addr == addr then record row { live = false } else r
 abbrev pub killed : List Row → ℕ → List Row
 killed rows addr = map (killed_at addr) rows
 
--- the address of an object after another: 16 bytes behind its end, rounded up to a multiple of 16
-abbrev pub address_after : Row → ℕ
-address_after row = (end_of row + 16 + 15) / 16 * 16
-
--- the address of the object after these, where that of the first is given
+-- the address of the object behind these: behind the last one, or the given address where there is none
 abbrev pub next_from : ℕ → List Row → ℕ
 next_from first [] = first
-next_from first (row ∷ rows) = next_from (address_after row) rows
+next_from first (row ∷ rows) = next_from (address_after row.addr row.size) rows
 
 -- the address of the next object of a process
 abbrev pub next_address : List Row → ℕ
-next_address rows = next_from 0x1000 rows
-
--- each object stands where those before it leave off
-abbrev pub IsPlacedFrom : ℕ → List Row → Type 0
-IsPlacedFrom first [] = Unit {0}
-IsPlacedFrom first (row ∷ rows) = (row.addr ≡ first) × IsPlacedFrom (address_after row) rows
-
-abbrev pub IsPlaced : List Row → Type 0
-IsPlaced rows = IsPlacedFrom 0x1000 rows
+next_address rows = next_from FIRST_ADDRESS rows

@@ -9,7 +9,7 @@ use Rattle.bm_code.specs.declared.code.MachineFunction.{MachineFunction}
 use Rattle.bm_code.specs.Process.{Frame, Process}
 use Rattle.bm_code.specs.Frames.{some_or, on_top}
 use Rattle.bm_code.specs.Transfers.{Effect, trap, pop_words, enter, call, call_word}
-use Rattle.bm_run.specs.declared.calls.Stop.{Stop}
+use Rattle.bm_code.specs.declared.stop.Stop.{Stop}
 use Rattle.bm_run.specs.Came.{Came}
 use Rattle.bm_run.proofs.Came.{pop_none}
 

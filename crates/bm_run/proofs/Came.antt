@@ -1,8 +1,9 @@
 -- From what an instruction does to what its step answers.
-use Rattle.std.proofs.Common.{◌≡◌, ◌∙◌, refl, ap, sym, subst, true, false, cond, ℕ, zero, suc, ℤ, ◌+◌, ◌-◌, ◌<◌, ◌≤◌, List, [], ◌∷◌, length, map, drop, Option, Some, None, arith, nat_lt}
+use Rattle.std.proofs.Common.{◌≡◌, ◌∙◌, refl, ap, sym, subst, true, false, cond, ℕ, zero, suc, ◌+◌, ◌-◌, ◌<◌, ◌≤◌, List, [], ◌∷◌, length, map, drop, Option, Some, None, arith, nat_lt}
 use Rattle.std.proofs.lemmas.Bool.Decides.{nat_tests}
 use Rattle.std.proofs.lemmas.List.{length-map, length-drop}
-use Rattle.lu_base.specs.declared.message.Message.{Message}
+use Rattle.lu_base.specs.declared.limits.TheConstants.{FRAMES}
+use Rattle.lu_base.specs.Sending.{Sent}
 use Rattle.lu_base.specs.declared.trap.Trap.{Trap}
 use Rattle.lu_base.specs.declared.trap.Trap.TheVariants.{BadCode, Depth}
 use Rattle.c_types.specs.declared.parts.Signature.{Signature}
@@ -16,8 +17,8 @@ use Rattle.bm_frame.specs.declared.frame.Frame.{Frame as FrameParts}
 use Rattle.bm_frame.specs.View.{frame_of}
 use Rattle.bm_run.specs.declared.calls.Mode.TheVariants as M
 use Rattle.bm_run.specs.declared.calls.Calls.{Calls}
-use Rattle.bm_run.specs.declared.calls.Stop.{Stop}
-use Rattle.bm_run.specs.declared.calls.Stop.TheVariants as S
+use Rattle.bm_code.specs.declared.stop.Stop.{Stop}
+use Rattle.bm_code.specs.declared.stop.Stop.TheVariants as S
 use Rattle.bm_run.specs.View.{activity_in, process_in}
 use Rattle.bm_run.specs.Spent.{IsSpent, with_mode}
 use Rattle.bm_run.specs.Opened.{IsEntered}
@@ -54,7 +55,7 @@ lt_true a b h = grind (arith, nat_tests)
 lt_false : (a b : ℕ) → b ≤ a → nat_lt a b ≡ false
 lt_false a b h = grind (arith, nat_tests)
 
-module _ (m : Content) (rows : List Row) (next : ℕ) (outbox : List (ℤ × Message)) where
+module _ (m : Content) (rows : List Row) (next : ℕ) (outbox : List Sent) where
   abbrev pub P : Calls → Process
   P c = process_in m rows next outbox c
 
@@ -94,16 +95,16 @@ module _ (m : Content) (rows : List Row) (next : ℕ) (outbox : List (ℤ × Mes
     left_long le = omega (arith, length-drop below rest, pop_length count c.frame.stack [] args rest popped)
 
     pub no_room : false ≡ has_room f s.result left_words → effect ≡ trap BadCode (P c)
-    no_room e = ap (λ b. cond b (cond (nat_lt (length (map frame_of c.callers) + 1) 128) (Spends entry) (trap Depth (P c))) (trap BadCode (P c))) (sym e)
+    no_room e = ap (λ b. cond b (cond (nat_lt (length (map frame_of c.callers) + 1) FRAMES) (Spends entry) (trap Depth (P c))) (trap BadCode (P c))) (sym e)
 
-    with_room : true ≡ has_room f s.result left_words → effect ≡ cond (nat_lt (length (map frame_of c.callers) + 1) 128) (Spends entry) (trap Depth (P c))
-    with_room e = ap (λ b. cond b (cond (nat_lt (length (map frame_of c.callers) + 1) 128) (Spends entry) (trap Depth (P c))) (trap BadCode (P c))) (sym e)
+    with_room : true ≡ has_room f s.result left_words → effect ≡ cond (nat_lt (length (map frame_of c.callers) + 1) FRAMES) (Spends entry) (trap Depth (P c))
+    with_room e = ap (λ b. cond b (cond (nat_lt (length (map frame_of c.callers) + 1) FRAMES) (Spends entry) (trap Depth (P c))) (trap BadCode (P c))) (sym e)
 
-    pub too_deep : true ≡ has_room f s.result left_words → 127 ≤ length c.callers → effect ≡ trap Depth (P c)
-    too_deep e le = with_room e ∙ ap (λ b. cond b (Spends entry) (trap Depth (P c))) (lt_false (length (map frame_of c.callers) + 1) 128 (omega (arith, le, length-map c.callers frame_of)))
+    pub too_deep : true ≡ has_room f s.result left_words → FRAMES ≤ length c.callers + 1 → effect ≡ trap Depth (P c)
+    too_deep e le = with_room e ∙ ap (λ b. cond b (Spends entry) (trap Depth (P c))) (lt_false (length (map frame_of c.callers) + 1) FRAMES (omega (arith, le, length-map c.callers frame_of)))
 
-    pub enters : true ≡ has_room f s.result left_words → length c.callers < 127 → effect ≡ Spends entry
-    enters e lt = with_room e ∙ ap (λ b. cond b (Spends entry) (trap Depth (P c))) (lt_true (length (map frame_of c.callers) + 1) 128 (omega (arith, lt, length-map c.callers frame_of)))
+    pub enters : true ≡ has_room f s.result left_words → length c.callers + 1 < FRAMES → effect ≡ Spends entry
+    enters e lt = with_room e ∙ ap (λ b. cond b (Spends entry) (trap Depth (P c))) (lt_true (length (map frame_of c.callers) + 1) FRAMES (omega (arith, lt, length-map c.callers frame_of)))
 
     pub entered_process : (b : Calls) (left left' : ℕ) → IsSpent c left None b left' → (frame : FrameParts) (callers : List FrameParts) → IsEntered b.frame frame b.callers callers g d.locals count below → process_in m rows next outbox (record { mode = b.mode; frame = frame; callers = callers; spare = b.spare }) ≡ record entry { spare = b.spare }
     entered_process b left left' h frame callers e =

@@ -2,7 +2,7 @@
 use Rattle.std.proofs.Common.{◌≡◌, ◌∙◌, refl, ap, sym, subst, ℕ, zero, suc, ◌+◌, ◌*◌, ◌<◌, ◌≤◌, length, Some, None, arith}
 use Rattle.lu_base.specs.declared.trap.Trap.TheVariants.{Budget}
 use Rattle.bm_code.specs.declared.code.MachineCode.{MachineCode}
-use Rattle.bm_code.specs.declared.world.World.{World}
+use Rattle.lu_base.specs.declared.world.World.{World}
 use Rattle.bm_code.specs.Process.{Process}
 use Rattle.bm_code.specs.Transfers.{Effect, Next, Spends, Returns, Traps, idle}
 use Rattle.bm_code.specs.Step.{step_instruction}
@@ -10,9 +10,10 @@ use Rattle.bm_code.specs.Run.{Returned, Trapped, Paused, Final, final, spend, on
 use Rattle.bm_code.specs.Measure.{ahead, longest, weight}
 use Rattle.bm_code.proofs.Falls.{Falls, step_falls}
 use Rattle.bm_code.proofs.Ends.{tick_falls}
-use Rattle.bm_run.specs.declared.calls.Stop.{Stop}
-use Rattle.bm_run.specs.declared.calls.Stop.TheVariants as S
-use Rattle.bm_run.specs.Came.{Came, AddsObject, Reaches, IsRun}
+use Rattle.bm_code.specs.declared.stop.Stop.{Stop}
+use Rattle.bm_code.specs.declared.stop.Stop.TheVariants as S
+use Rattle.bm_code.specs.Ran.{AddsObject, Reaches, IsRun}
+use Rattle.bm_run.specs.Came.{Came}
 use Rattle.bm_run.specs.Going.{IsStep}
 
 module _ (code : MachineCode) (world : World) where

@@ -1,14 +1,10 @@
 -- What a step answers, against what the instruction does.
-use Rattle.std.specs.Prelude.{◌≡◌, ℕ, suc, ◌<◌, ◌≤◌, ◌+◌, length, Option, Some, None}
+use Rattle.std.specs.Prelude.{◌≡◌, ℕ, suc, ◌<◌, length, Option, Some, None}
 use Rattle.lu_base.specs.declared.trap.Trap.TheVariants.{Budget}
-use Rattle.bm_code.specs.declared.code.MachineCode.{MachineCode}
-use Rattle.bm_code.specs.declared.world.World.{World}
 use Rattle.bm_code.specs.Process.{Process}
 use Rattle.bm_code.specs.Transfers.{Effect, Next, Spends, Returns, Traps, idle}
-use Rattle.bm_code.specs.Step.{step_instruction}
-use Rattle.bm_code.specs.Run.{Returned, Trapped, Paused, Final, final, RunsTo}
-use Rattle.bm_run.specs.declared.calls.Stop.{Stop}
-use Rattle.bm_run.specs.declared.calls.Stop.TheVariants as S
+use Rattle.bm_code.specs.declared.stop.Stop.{Stop}
+use Rattle.bm_code.specs.declared.stop.Stop.TheVariants as S
 
 pub record HasSpent (p x : Process) (left left' : ℕ) (q : Process) : Type 0 where
   pub spare : p.spare ≡ suc q.spare
@@ -31,22 +27,3 @@ Came (Returns v x) p left (Some (S.Returned w)) left' q = (w ≡ v) × (q ≡ x)
 Came (Returns v x) p left _ left' q = ⊥
 Came (Traps t x) p left (Some (S.Trapped u)) left' q = (u ≡ t) × (q ≡ x)
 Came (Traps t x) p left _ left' q = ⊥
-
--- the next instruction adds an object
-abbrev pub AddsObject : Process → Effect → Type 0
-AddsObject p (Next x) = length p.rows < length x.rows
-AddsObject p _ = ⊥
-
--- `q` is reached from `p` by so many ticks
-abbrev pub Reaches : MachineCode → World → ℕ → Process → Process → Type 0
-Reaches code world spent p q =
-    (ticks : ℕ) (r : Final) → RunsTo code world ticks q r → RunsTo code world (spent + ticks) p r
-
--- What a run of so many ticks from `p` answers, and the process `q` that it leaves. After a pause, and where memory ran
--- out, a further run goes on from there.
-abbrev pub IsRun : MachineCode → World → ℕ → Process → Stop → Process → Type 0
-IsRun code world ticks p (S.Returned v) q = RunsTo code world ticks p (final (Returned v) q)
-IsRun code world ticks p (S.Trapped t) q = RunsTo code world ticks p (final (Trapped t) q)
-IsRun code world ticks p S.Paused q = RunsTo code world ticks p (final Paused q) × Reaches code world ticks p q
-IsRun code world ticks p S.Memory q =
-    AddsObject q (step_instruction code world q) × ((spent : ℕ) × (spent ≤ ticks) × Reaches code world spent p q)

@@ -4,8 +4,8 @@ use Rattle.lu_base.specs.declared.trap.Trap.TheVariants.{Budget}
 use Rattle.bm_run.specs.declared.calls.Mode.{Mode}
 use Rattle.bm_run.specs.declared.calls.Mode.TheVariants as M
 use Rattle.bm_run.specs.declared.calls.Calls.{Calls}
-use Rattle.bm_run.specs.declared.calls.Stop.{Stop}
-use Rattle.bm_run.specs.declared.calls.Stop.TheVariants as S
+use Rattle.bm_code.specs.declared.stop.Stop.{Stop}
+use Rattle.bm_code.specs.declared.stop.Stop.TheVariants as S
 
 abbrev pub with_mode : Mode → Calls → Calls
 with_mode mode c = record { mode = mode; frame = c.frame; callers = c.callers; spare = c.spare }

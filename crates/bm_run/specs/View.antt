@@ -1,6 +1,6 @@
 -- The process that the parts of one in memory stand for.
-use Rattle.std.specs.Prelude.{ℕ, ℤ, List, map}
-use Rattle.lu_base.specs.declared.message.Message.{Message}
+use Rattle.std.specs.Prelude.{ℕ, List, map}
+use Rattle.lu_base.specs.Sending.{Sent}
 use Rattle.bm_mem.specs.Content.{Content}
 use Rattle.bm_objects.specs.declared.row.Row.{Row}
 use Rattle.bm_code.specs.Process.{Frame, Activity, Idle, Starting, Running, Process}
@@ -17,7 +17,7 @@ activity_in M.Running f callers = Running f callers
 abbrev pub activity_of : Calls → Activity
 activity_of c = activity_in c.mode (frame_of c.frame) (map frame_of c.callers)
 
-abbrev pub process_in : Content → List Row → ℕ → List (ℤ × Message) → Calls → Process
+abbrev pub process_in : Content → List Row → ℕ → List Sent → Calls → Process
 process_in m rows next outbox c = record {
   content = m;
   rows = rows;

@@ -2,17 +2,19 @@
 
 ghost use Rattle.std.specs.Prelude.{◌≡◌, ◌+◌, ◌<◌, ◌≤◌, ◌^◌, [], ◌∷◌, length, drop, map, IfOk, MatchBool};
 ghost use Rattle.std.specs.Bool.{OnTrue};
+ghost use Rattle.lu_base.specs.declared.limits.TheConstants.{LOCALS, STACK_HEIGHT};
 ghost use Rattle.bm_frame.specs.View.{frame_of};
 ghost use Rattle.bm_run.specs.Opened.{IsOpened, IsEntered};
 
 use bm_frame::frame::Frame;
 use lu_base::Memory;
+use lu_base::limits::FRAMES;
 use std::alloc::Global;
 use std::marker::Model;
 use std::mem::replace;
 
 /// How many functions may wait.
-pub const GREATEST_DEPTH: usize = 127;
+const GREATEST_DEPTH: usize = FRAMES - 1;
 
 /// The frames of the functions that wait, which contracts see as a list, the last caller first, and as many free
 /// frames as there may be more.
@@ -35,7 +37,7 @@ impl Model for Callers {
 }
 
 fn make_frames(alloc: Global) -> Result<Vec<Frame>, Memory>
-    ensures { IfOk result (λ frames. length frames.items ≡ 127) }
+    ensures { IfOk result (λ frames. length frames.items ≡ GREATEST_DEPTH) }
 {
     let mut frames = Vec::with_capacity(alloc, GREATEST_DEPTH)?;
     for _ in 0..GREATEST_DEPTH {
@@ -56,8 +58,8 @@ fn open(
     below: usize,
 )
     requires place { caller.old.place + 1 < 2 ^ 64 }
-    requires locals { locals ≤ 256 }
-    requires arguments { arguments ≤ 256 }
+    requires locals { locals ≤ LOCALS }
+    requires arguments { arguments ≤ LOCALS }
     requires words { arguments + below ≤ length caller.old.stack }
     ensures opened { IsOpened (frame_of fresh.new) (frame_of caller.old) (frame_of caller.new) function locals arguments below }
     ensures short { length caller.new.stack + arguments + below ≡ length caller.old.stack }
@@ -96,12 +98,12 @@ impl Callers {
         arguments: usize,
         below: usize,
     )
-        requires room { length self.old < 127 }
+        requires room { length self.old < GREATEST_DEPTH }
         requires place { frame.old.place + 1 < 2 ^ 64 }
-        requires locals { locals ≤ 256 }
-        requires arguments { arguments ≤ 256 }
+        requires locals { locals ≤ LOCALS }
+        requires arguments { arguments ≤ LOCALS }
         requires words { arguments + below ≤ length frame.old.stack }
-        requires short { length frame.old.stack ≤ 4096 + arguments + below }
+        requires short { length frame.old.stack ≤ STACK_HEIGHT + arguments + below }
         ensures { IsEntered frame.old frame.new self.old self.new function locals arguments below }
     {
         let Some(mut fresh) = self.free.pop() else {
@@ -115,7 +117,7 @@ impl Callers {
     /// Lets the last caller run again, if there is one.
     pub fn leave(&mut self, frame: &mut Frame) -> bool
         ensures frame { MatchBool result (self.old ≡ frame.new ∷ self.new) ((self.old ≡ []) × (self.new ≡ self.old) × (frame.new ≡ frame.old)) }
-        ensures short { OnTrue result (length frame.new.stack ≤ 4096) }
+        ensures short { OnTrue result (length frame.new.stack ≤ STACK_HEIGHT) }
     {
         let Some(caller) = self.waiting.pop() else {
             return false;

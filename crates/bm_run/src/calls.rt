@@ -2,10 +2,11 @@
 
 ghost use Rattle.std.specs.Prelude.{◌≡◌, Some};
 ghost use Rattle.bm_run.specs.declared.calls.Mode.TheVariants as M;
-ghost use Rattle.bm_run.specs.declared.calls.Stop.TheVariants as S;
+ghost use Rattle.bm_code.specs.declared.stop.Stop.TheVariants as S;
 ghost use Rattle.bm_run.specs.Spent.{IsSpent, with_mode};
 
 use crate::callers::Callers;
+use bm_code::stop::Stop;
 use bm_frame::frame::Frame;
 use lu_base::Trap;
 
@@ -17,18 +18,6 @@ pub enum Mode {
     /// One has begun: its function and its arguments are the frame's function and locals.
     Starting,
     Running,
-}
-
-/// Why a run stops.
-#[derive(Clone, Copy, Debug, PartialEq, Eq)]
-pub enum Stop {
-    /// The call returned this word, or 0 where it has no result.
-    Returned(u64),
-    Trapped(Trap),
-    /// The ticks that were given are spent, and another is needed.
-    Paused,
-    /// An allocation was refused. It is tried again by the next run.
-    Memory,
 }
 
 /// What is under way.

@@ -1,8 +1,9 @@
 // The instructions that concern a frame and memory alone.
 
 ghost use Rattle.std.specs.Prelude.{◌≡◌, ◌+◌, ◌<◌, ◌≤◌, ◌^◌, OnErr};
+ghost use Rattle.lu_base.specs.declared.limits.TheConstants.{STACK_HEIGHT};
 ghost use Rattle.bm_frame.specs.View.{frame_of};
-ghost use Rattle.bm_frame.specs.Mapped.{IsMapped, AreKnown};
+ghost use Rattle.bm_code.specs.Mapped.{IsMapped, AreKnown};
 ghost use Rattle.bm_run.specs.Plain.{IsPlain, HasActed};
 
 use bm_code::code::{MachineCode, MachineFunction};
@@ -29,7 +30,7 @@ pub fn step_plain<B: Bytes>(
 ) -> Result<(), Trap>
     requires plain { IsPlain operation }
     requires place { frame.old.place + 1 < 2 ^ 64 }
-    requires height { function.now.height ≤ 4096 }
+    requires height { function.now.height ≤ STACK_HEIGHT }
     requires mapped { IsMapped (B.content memory.old) objects.now }
     requires known { AreKnown code.now.types objects.now }
     ensures acts { HasActed operation code.now function.now (B.content memory.old) objects.now (frame_of frame.old) result (B.content memory.new) (frame_of frame.new) }

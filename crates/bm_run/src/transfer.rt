@@ -3,16 +3,19 @@
 ghost use Rattle.std.specs.Prelude.{◌≡◌, ◌+◌, ◌<◌, ◌≤◌, ◌^◌, ◌∷◌, ℕ, List, length, drop};
 ghost use Rattle.std.specs.Prelude.{IfSome, is_some, slice_get};
 ghost use Rattle.std.specs.Option.{option_copied, option_map};
+ghost use Rattle.lu_base.specs.declared.limits.TheConstants.{LOCALS, STACK_HEIGHT};
 ghost use Rattle.bm_code.specs.declared.operation.Transfer.TheVariants as T;
 ghost use Rattle.bm_code.specs.Transfers.{jump, has_room, give_back, transferred};
 ghost use Rattle.bm_run.specs.declared.calls.Mode.TheVariants as M;
 ghost use Rattle.bm_run.specs.Transferred.{IsTransferred, IsEntering, IsFunction, IsSized};
 
-use crate::calls::{Calls, Mode, Stop, spend, stop_by};
+use crate::calls::{Calls, Mode, spend, stop_by};
 use bm_code::code::{MachineCode, MachineFunction};
 use bm_code::operation::Transfer;
+use bm_code::stop::Stop;
 use c_types::Signature;
 use lu_base::Trap;
+use lu_base::limits::FRAMES;
 
 /// Goes on at a place of the function without the topmost words.
 fn go_to(
@@ -66,17 +69,17 @@ fn enter(
 ) -> Option<Stop>
     requires running { calls.old.mode ≡ M.Running }
     requires place { calls.old.frame.place + 1 < 2 ^ 64 }
-    requires locals { callee.now.locals ≤ 256 }
-    requires arguments { arguments ≤ 256 }
+    requires locals { callee.now.locals ≤ LOCALS }
+    requires arguments { arguments ≤ LOCALS }
     requires words { arguments + below ≤ length calls.old.frame.stack }
-    requires height { function.now.height ≤ 4096 }
+    requires height { function.now.height ≤ STACK_HEIGHT }
     ensures { IsEntering function.now number callee.now signature.now arguments below calls.old left.old result calls.new left.new }
 {
     let rest = calls.frame.stack.len() - arguments - below;
     if !has_room(function, signature, rest) {
         return stop_by(calls, Trap::BadCode);
     }
-    if calls.callers.len() >= 127 {
+    if calls.callers.len() >= FRAMES - 1 {
         return stop_by(calls, Trap::Depth);
     }
     if let Some(stop) = spend(calls, left) {
@@ -176,7 +179,7 @@ fn call(
     requires running { calls.old.mode ≡ M.Running }
     requires place { calls.old.frame.place + 1 < 2 ^ 64 }
     requires sized { IsSized code.now }
-    requires height { function.now.height ≤ 4096 }
+    requires height { function.now.height ≤ STACK_HEIGHT }
     ensures { IsTransferred (transferred (T.Call number) code.now function.now) calls.old left.old result calls.new left.new }
 {
     let Some(callee) = function_at(code, number as usize) else {
@@ -204,7 +207,7 @@ fn call_indirect(
     requires running { calls.old.mode ≡ M.Running }
     requires place { calls.old.frame.place + 1 < 2 ^ 64 }
     requires sized { IsSized code.now }
-    requires height { function.now.height ≤ 4096 }
+    requires height { function.now.height ≤ STACK_HEIGHT }
     ensures { IsTransferred (transferred (T.CallIndirect arguments) code.now function.now) calls.old left.old result calls.new left.new }
 {
     let arguments = arguments as usize;
@@ -278,7 +281,7 @@ pub fn step_transfer(
     requires running { calls.old.mode ≡ M.Running }
     requires place { calls.old.frame.place + 1 < 2 ^ 64 }
     requires sized { IsSized code.now }
-    requires height { function.now.height ≤ 4096 }
+    requires height { function.now.height ≤ STACK_HEIGHT }
     ensures { IsTransferred (transferred operation code.now function.now) calls.old left.old result calls.new left.new }
 {
     match operation {

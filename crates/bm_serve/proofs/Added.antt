@@ -5,13 +5,14 @@ use Rattle.std.specs.FinMap.{get, insert, remove, same_map, nat_cmp-IsAntisymmet
 use Rattle.std.specs.Cmp.{nat_cmp_total}
 use Rattle.std.proofs.lemmas.Bool.{cases_eq}
 use Rattle.std.proofs.lemmas.List.{length-replicate}
+use Rattle.lu_base.specs.Addresses.{address_after}
 use Rattle.c_types.specs.declared.parts.Parts.{Parts}
 use Rattle.bm_mem.specs.Content.{Content, IsClear}
 use Rattle.bm_mem.proofs.Laws.{get-insert_there, get-insert_else, get-remove_there, get-remove_else}
 use Rattle.bm_objects.specs.declared.row.Row.{Row}
-use Rattle.bm_objects.specs.Table.{end_of, address_after}
-use Rattle.bm_code.specs.Services.{heap_part, heap_bytes}
-use Rattle.bm_frame.specs.Mapped.{HasObject, IsOfRow, IsMapped, AreKnown}
+use Rattle.bm_objects.specs.Table.{end_of}
+use Rattle.bm_code.specs.Services.{heap_part_of, heap_bytes}
+use Rattle.bm_code.specs.Mapped.{HasObject, IsOfRow, IsMapped, AreKnown}
 use Rattle.bm_serve.specs.Space.{IsSpace}
 
 some_in : {A : Type 0} (a b : A) → Some a ≡ Some b → a ≡ b
@@ -37,7 +38,7 @@ all_at [] next h k x e = absurd (cc)
 all_at (y ∷ rows) next h zero x e = let same : y ≡ x = cc in subst (λ r. end_of r < next) same (h 0 y (omega arith))
 all_at (y ∷ rows) next h (suc k) x e = all_at rows next (λ k d lt. h (suc k) d (omega arith)) k x e
 
-pub heap_added : (rows : List Row) (r : Row) → heap_bytes (rows ++ r ∷ []) ≡ heap_bytes rows + heap_part r
+pub heap_added : (rows : List Row) (r : Row) → heap_bytes (rows ++ r ∷ []) ≡ heap_bytes rows + heap_part_of r
 heap_added [] r = omega arith
 heap_added (y ∷ rows) r = omega (arith, heap_added rows r)
 
@@ -72,7 +73,7 @@ undone m n n' a b none e f =
     by_place q (inl same) = ap (get (remove (insert m a b) a)) same ∙ (get-remove_there (insert m a b) a ∙ (sym none ∙ ap (get m) (sym same)))
     by_place q (inr differs) = get-remove_else (insert m a b) a q differs ∙ get-insert_else m a b q differs
 
-module _ (types : Parts) (m : Content) (rows : List Row) (next used : ℕ) (space : IsSpace types m rows next used) (r : Row) (place : r.addr ≡ next) (live : r.live ≡ true) (known : r.elem < length types.types) (part : heap_part r ≡ r.size) (low : end_of r + 31 < 2 ^ 32) (used_low : used + r.size < 2 ^ 60) where
+module _ (types : Parts) (m : Content) (rows : List Row) (next used : ℕ) (space : IsSpace types m rows next used) (r : Row) (place : r.addr ≡ next) (live : r.live ≡ true) (known : r.elem < length types.types) (part : heap_part_of r ≡ r.size) (low : end_of r + 31 < 2 ^ 32) (used_low : used + r.size < 2 ^ 60) where
   abbrev zeros : List ℕ
   zeros = replicate r.size 0
 
@@ -108,11 +109,11 @@ module _ (types : Parts) (m : Content) (rows : List Row) (next used : ℕ) (spac
       by_case (inl old) = space.known k x old
       by_case (inr same) = subst (λ y. y.elem < length types.types) same known
 
-  after_end : end_of r < address_after r
+  after_end : end_of r < address_after r.addr r.size
   after_end = omega arith
 
-  each_above : All (λ y. end_of y < address_after r) more
-  each_above = push rows r (address_after r) lower after_end
+  each_above : All (λ y. end_of y < address_after r.addr r.size) more
+  each_above = push rows r (address_after r.addr r.size) lower after_end
     where
       push : (rows : List Row) (r : Row) (n : ℕ) → All (λ y. end_of y < n) rows → end_of r < n → All (λ y. end_of y < n) (rows ++ r ∷ [])
       push [] r n h k zero d lt = k
@@ -120,14 +121,14 @@ module _ (types : Parts) (m : Content) (rows : List Row) (next used : ℕ) (spac
       push (y ∷ rows) r n h k zero d lt = h 0 d (omega arith)
       push (y ∷ rows) r n h k (suc i) d lt = push rows r n (λ j d lt. h (suc j) d (omega arith)) k i d (omega arith)
 
-      lower : All (λ y. end_of y < address_after r) rows
+      lower : All (λ y. end_of y < address_after r.addr r.size) rows
       lower k d lt = omega (arith, space.above k d lt, place, after_end)
 
-  pub space_added : (n : Content) (rows' : List Row) (next' used' : ℕ) → n ≡ insert m r.addr zeros → rows' ≡ more → next' ≡ address_after r → used' ≡ used + r.size → IsSpace types n rows' next' used'
+  pub space_added : (n : Content) (rows' : List Row) (next' used' : ℕ) → n ≡ insert m r.addr zeros → rows' ≡ more → next' ≡ address_after r.addr r.size → used' ≡ used + r.size → IsSpace types n rows' next' used'
   space_added n rows' next' used' e f g h =
-      subst (λ n. IsSpace types n rows' next' used') (sym e) (subst (λ l. IsSpace types (insert m r.addr zeros) l next' used') (sym f) (subst (λ k. IsSpace types (insert m r.addr zeros) more k used') (sym g) (subst (λ k. IsSpace types (insert m r.addr zeros) more (address_after r) k) (sym h) whole)))
+      subst (λ n. IsSpace types n rows' next' used') (sym e) (subst (λ l. IsSpace types (insert m r.addr zeros) l next' used') (sym f) (subst (λ k. IsSpace types (insert m r.addr zeros) more k used') (sym g) (subst (λ k. IsSpace types (insert m r.addr zeros) more (address_after r.addr r.size) k) (sym h) whole)))
     where
-      whole : IsSpace types (insert m r.addr zeros) more (address_after r) (used + r.size)
+      whole : IsSpace types (insert m r.addr zeros) more (address_after r.addr r.size) (used + r.size)
       whole = record {
         mapped = record { live = each_live; only = each_only };
         known = each_known;

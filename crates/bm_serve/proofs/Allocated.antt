@@ -1,17 +1,17 @@
 -- What an allocation comes to.
-use Rattle.std.proofs.Common.{◌≡◌, ◌∙◌, refl, ap, sym, Bool, true, false, cond, ℕ, ℤ, List, [], ◌∷◌, ◌++◌, replicate, drop, Some, arith}
+use Rattle.std.proofs.Common.{◌≡◌, ◌∙◌, refl, ap, sym, Bool, true, false, cond, ℕ, List, [], ◌∷◌, ◌++◌, replicate, drop, Some, arith}
 use Rattle.std.specs.Prelude.{slice_get, MatchBool}
 use Rattle.std.specs.FinMap.{insert}
 use Rattle.std.proofs.lemmas.List.{length-append}
-use Rattle.lu_base.specs.declared.message.Message.{Message}
+use Rattle.lu_base.specs.Addresses.{address_after}
+use Rattle.lu_base.specs.Sending.{Sent}
 use Rattle.lu_base.specs.declared.trap.Trap.TheVariants.{BadCode}
 use Rattle.bm_mem.specs.Content.{Content}
 use Rattle.bm_objects.specs.declared.row.Row.{Row}
-use Rattle.bm_objects.specs.Table.{address_after}
 use Rattle.bm_code.specs.declared.code.MachineCode.{MachineCode}
 use Rattle.bm_code.specs.declared.code.MachineSite.{MachineSite}
 use Rattle.bm_code.specs.declared.operation.Service.TheVariants.{Allocate}
-use Rattle.bm_code.specs.declared.world.World.{World}
+use Rattle.lu_base.specs.declared.world.World.{World}
 use Rattle.bm_code.specs.Process.{Frame, Activity, Process}
 use Rattle.bm_code.specs.Frames.{some_or, on_top, advanced}
 use Rattle.bm_code.specs.Transfers.{Effect, Next, trap, running}
@@ -21,7 +21,7 @@ use Rattle.bm_serve.specs.Held.{held, process_of}
 use Rattle.bm_serve.specs.Served.{WouldAdd}
 use Rattle.bm_serve.proofs.Tops.{top_some}
 
-module _ (code : MachineCode) (world : World) (m : Content) (rows : List Row) (next : ℕ) (outbox : List (ℤ × Message)) (activity : Activity) (spare : ℕ) (callers : List Frame) (f : Frame) (site : ℕ) (s : MachineSite) (n : ℕ) (at : Some s ≡ slice_get code.sites site) (top : Some n ≡ slice_get f.stack 0) where
+module _ (code : MachineCode) (world : World) (m : Content) (rows : List Row) (next : ℕ) (outbox : List Sent) (activity : Activity) (spare : ℕ) (callers : List Frame) (f : Frame) (site : ℕ) (s : MachineSite) (n : ℕ) (at : Some s ≡ slice_get code.sites site) (top : Some n ≡ slice_get f.stack 0) where
   abbrev p : Process
   p = process_of (held m rows next outbox) activity spare
 
@@ -64,6 +64,6 @@ module _ (code : MachineCode) (world : World) (m : Content) (rows : List Row) (n
           ∙ (ap (λ r. Next (running (process_of (held x r next' outbox) activity spare) (advanced f (b ∷ rest)) callers)) rx
           ∙ ap (λ n. Next (running (process_of (held x xs n outbox) activity spare) (advanced f (b ∷ rest)) callers)) nx)))
 
-      by_test : (b : Bool) → can_allocate rows row ≡ b → MatchBool b ((a ≡ row.addr) × (m' ≡ insert m row.addr (replicate row.size 0)) × (rows' ≡ rows ++ row ∷ []) × (next' ≡ address_after row)) ((a ≡ 0) × (m' ≡ m) × (rows' ≡ rows) × (next' ≡ next)) → effect ≡ Next (running (process_of (held m' rows' next' outbox) activity spare) g callers)
-      by_test true e h = can e ∙ answer (insert m row.addr (replicate row.size 0)) (rows ++ row ∷ []) (address_after row) row.addr h.0 h.1 h.2 h.3
+      by_test : (b : Bool) → can_allocate rows row ≡ b → MatchBool b ((a ≡ row.addr) × (m' ≡ insert m row.addr (replicate row.size 0)) × (rows' ≡ rows ++ row ∷ []) × (next' ≡ address_after row.addr row.size)) ((a ≡ 0) × (m' ≡ m) × (rows' ≡ rows) × (next' ≡ next)) → effect ≡ Next (running (process_of (held m' rows' next' outbox) activity spare) g callers)
+      by_test true e h = can e ∙ answer (insert m row.addr (replicate row.size 0)) (rows ++ row ∷ []) (address_after row.addr row.size) row.addr h.0 h.1 h.2 h.3
       by_test false e h = cannot e ∙ answer m rows next 0 h.0 h.1 h.2 h.3

@@ -10,8 +10,8 @@ use Rattle.bm_mem.specs.Content.{Content}
 use Rattle.bm_mem.proofs.Laws.{get-remove_there, get-remove_else}
 use Rattle.bm_objects.specs.declared.row.Row.{Row}
 use Rattle.bm_objects.specs.Table.{end_of, killed_at, killed, IsTable}
-use Rattle.bm_code.specs.Services.{heap_part, heap_bytes}
-use Rattle.bm_frame.specs.Mapped.{HasObject, IsOfRow, AreKnown}
+use Rattle.bm_code.specs.Services.{heap_part_of, heap_bytes}
+use Rattle.bm_code.specs.Mapped.{HasObject, IsOfRow, AreKnown}
 use Rattle.bm_serve.specs.Space.{IsSpace}
 
 some_in : {A : Type 0} (a b : A) → Some a ≡ Some b → a ≡ b
@@ -80,36 +80,36 @@ above_killed (x ∷ rows) a next h (suc k) d lt = above_killed rows a next (λ j
 heap_same : (rows : List Row) (a : ℕ) → ((k : ℕ) (x : Row) → slice_get rows k ≡ Some x → x.addr ≢ a) → heap_bytes (killed rows a) ≡ heap_bytes rows
 heap_same [] a h = refl
 heap_same (x ∷ rows) a h =
-    let e = ap heap_part (killed_else a x (h 0 x refl)) in omega (arith, e, heap_same rows a (λ k y f. h (suc k) y f))
+    let e = ap heap_part_of (killed_else a x (h 0 x refl)) in omega (arith, e, heap_same rows a (λ k y f. h (suc k) y f))
 
-dead_part : (r : Row) → heap_part (dead r) ≡ 0
+dead_part : (r : Row) → heap_part_of (dead r) ≡ 0
 dead_part r = refl
 
-heap_killed : (rows : List Row) (a k : ℕ) (r : Row) → slice_get rows k ≡ Some r → r.addr ≡ a → heap_part r ≡ r.size → ((j : ℕ) (x : Row) → slice_get rows j ≡ Some x → x.addr ≡ a → j ≡ k) → heap_bytes (killed rows a) + r.size ≡ heap_bytes rows
+heap_killed : (rows : List Row) (a k : ℕ) (r : Row) → slice_get rows k ≡ Some r → r.addr ≡ a → heap_part_of r ≡ r.size → ((j : ℕ) (x : Row) → slice_get rows j ≡ Some x → x.addr ≡ a → j ≡ k) → heap_bytes (killed rows a) + r.size ≡ heap_bytes rows
 heap_killed [] a k r e at part one = absurd (cc)
 heap_killed (y ∷ rows) a zero r e at part one =
     let same : y ≡ r = some_in y r e in
-    let gone : heap_part (killed_at a y) ≡ 0 = ap heap_part (killed_here a y (ap (λ r. r.addr) same ∙ at)) ∙ dead_part y in
+    let gone : heap_part_of (killed_at a y) ≡ 0 = ap heap_part_of (killed_here a y (ap (λ r. r.addr) same ∙ at)) ∙ dead_part y in
     let rest = heap_same rows a (λ j x f b. let n : suc j ≡ 0 = one (suc j) x f b in absurd (cc)) in
-    omega (arith, gone, rest, ap heap_part same, part)
+    omega (arith, gone, rest, ap heap_part_of same, part)
 heap_killed (y ∷ rows) a (suc k) r e at part one =
     let other : y.addr ≢ a = λ b. let n : 0 ≡ suc k = one 0 y refl b in absurd (cc) in
-    let still = ap heap_part (killed_else a y other) in
+    let still = ap heap_part_of (killed_else a y other) in
     let rest = heap_killed rows a k r e at part (λ j x f b. let n : suc j ≡ suc k = one (suc j) x f b in cc) in
     omega (arith, still, rest)
 
-part_below : (rows : List Row) (k : ℕ) (r : Row) → slice_get rows k ≡ Some r → heap_part r ≤ heap_bytes rows
+part_below : (rows : List Row) (k : ℕ) (r : Row) → slice_get rows k ≡ Some r → heap_part_of r ≤ heap_bytes rows
 part_below [] k r e = absurd (cc)
-part_below (y ∷ rows) zero r e = let same = ap heap_part (some_in y r e) in omega (arith, same)
+part_below (y ∷ rows) zero r e = let same = ap heap_part_of (some_in y r e) in omega (arith, same)
 part_below (y ∷ rows) (suc k) r e = omega (arith, part_below rows k r e)
 
-heap_row : (r : Row) (site : Option ℕ) → r.live ≡ true → r.site ≡ site → is_some site ≡ true → heap_part r ≡ r.size
+heap_row : (r : Row) (site : Option ℕ) → r.live ≡ true → r.site ≡ site → is_some site ≡ true → heap_part_of r ≡ r.size
 heap_row r site l s e = ap (λ b. cond (b && is_some r.site) r.size 0) l ∙ (ap (λ o. cond (is_some o) r.size 0) s ∙ ap (λ b. cond b r.size 0) e)
 
-pub heap_whole : (r : Row) → r.live ≡ true → is_some r.site ≡ true → heap_part r ≡ r.size
+pub heap_whole : (r : Row) → r.live ≡ true → is_some r.site ≡ true → heap_part_of r ≡ r.size
 heap_whole r l e = heap_row r r.site l refl e
 
-module _ (types : Parts) (m : Content) (rows : List Row) (next used : ℕ) (space : IsSpace types m rows next used) (t : IsTable rows) (k : ℕ) (r : Row) (at : slice_get rows k ≡ Some r) (live : r.live ≡ true) (part : heap_part r ≡ r.size) where
+module _ (types : Parts) (m : Content) (rows : List Row) (next used : ℕ) (space : IsSpace types m rows next used) (t : IsTable rows) (k : ℕ) (r : Row) (at : slice_get rows k ≡ Some r) (live : r.live ≡ true) (part : heap_part_of r ≡ r.size) where
   pub begins : Any (λ x. x.addr ≡ r.addr) rows
   begins = (k, r, slice_get_within rows k r at, get_or_from_slice_get rows k r r at, refl)
 

@@ -1,6 +1,6 @@
 -- What services work on beside the frame, and the process around it.
-use Rattle.std.specs.Prelude.{◌≡◌, ℕ, ℤ, ◌<◌, List, Some, length, slice_get}
-use Rattle.lu_base.specs.declared.message.Message.{Message}
+use Rattle.std.specs.Prelude.{◌≡◌, ℕ, ◌<◌, List, Some, length, slice_get}
+use Rattle.lu_base.specs.Sending.{Sent}
 use Rattle.bm_mem.specs.Content.{Content}
 use Rattle.bm_objects.specs.declared.row.Row.{Row}
 use Rattle.bm_code.specs.declared.code.MachineCode.{MachineCode}
@@ -12,9 +12,9 @@ pub record Held : Type 0 where
   pub content : Content
   pub rows : List Row
   pub next : ℕ
-  pub outbox : List (ℤ × Message)
+  pub outbox : List Sent
 
-abbrev pub held : Content → List Row → ℕ → List (ℤ × Message) → Held
+abbrev pub held : Content → List Row → ℕ → List Sent → Held
 held m rows next outbox = record { content = m; rows = rows; next = next; outbox = outbox }
 
 -- the process that has it, with what runs and how many ticks the call may still use

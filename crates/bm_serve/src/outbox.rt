@@ -1,13 +1,12 @@
 // Messages that wait to leave.
 
 ghost use Rattle.std.specs.Prelude.{◌≡◌, ◌<◌, ◌≤◌, ◌==◌, [], ◌∷◌, ◌++◌, length, IfOk};
+ghost use Rattle.lu_base.specs.declared.limits.TheConstants.{SENDS};
 
+use lu_base::limits::SENDS;
 use lu_base::{Memory, Message};
 use std::alloc::Global;
 use std::marker::Model;
-
-/// How many messages may wait.
-pub const OUTBOX_LIMIT: usize = 16;
 
 /// The messages that a delivery has sent, in order, each with the number of its recipient. Contracts see the list. Room
 /// for all is made at once, so that a push takes no memory.
@@ -17,14 +16,15 @@ pub struct Outbox {
 }
 
 impl Model for Outbox {
-    ghost use Rattle.std.specs.Prelude.{◌≤◌, ℤ, List, length, vec_capacity};
-    ghost use Rattle.lu_base.specs.declared.message.Message.{Message};
+    ghost use Rattle.std.specs.Prelude.{◌≤◌, List, length, vec_capacity};
+    ghost use Rattle.lu_base.specs.declared.limits.TheConstants.{SENDS};
+    ghost use Rattle.lu_base.specs.Sending.{Sent};
 
-    ghost Value = { List (ℤ × Message) };
+    ghost Value = { List Sent };
 
     ghost view = { λ o. o.sends.items };
 
-    ghost invariant = { λ o. (16 ≤ vec_capacity o.sends) × (length o.sends.items ≤ 16) };
+    ghost invariant = { λ o. (SENDS ≤ vec_capacity o.sends) × (length o.sends.items ≤ SENDS) };
 }
 
 impl Outbox {
@@ -33,14 +33,14 @@ impl Outbox {
         ensures { IfOk result (λ outbox. outbox ≡ []) }
     {
         Ok(Outbox {
-            sends: Vec::with_capacity(alloc, OUTBOX_LIMIT)?,
+            sends: Vec::with_capacity(alloc, SENDS)?,
         })
     }
 
     /// How many messages wait.
     pub fn len(&self) -> usize
         ensures count { result ≡ length self.now }
-        ensures bound { length self.now ≤ 16 }
+        ensures bound { length self.now ≤ SENDS }
     {
         self.sends.len()
     }
@@ -54,7 +54,7 @@ impl Outbox {
 
     /// Puts a message for `to` behind the others. It takes no memory.
     pub fn push(&mut self, to: i32, message: Message)
-        requires { length self.old < 16 }
+        requires { length self.old < SENDS }
         ensures { self.new ≡ self.old ++ (to, message) ∷ [] }
     {
         self.sends.push_reserved((to, message));
@@ -70,7 +70,7 @@ impl Outbox {
     /// The messages in order.
     pub fn as_slice(&self) -> &[(i32, Message)]
         ensures value { result.now ≡ self.now }
-        ensures bound { length self.now ≤ 16 }
+        ensures bound { length self.now ≤ SENDS }
     {
         self.sends.as_slice()
     }

@@ -1,10 +1,10 @@
 // The instructions that ask for something of the machine.
 
-ghost use Rattle.std.specs.Prelude.{◌≡◌, ◌+◌, ◌<◌, ◌≤◌, ◌^◌, ◌∷◌, ℕ, ℤ, List, length, drop, OnErr, slice_get};
+ghost use Rattle.std.specs.Prelude.{◌≡◌, ◌+◌, ◌<◌, ◌≤◌, ◌^◌, ◌∷◌, ℕ, List, length, drop, OnErr, slice_get};
 ghost use Rattle.std.specs.Option.{option_copied};
-ghost use Rattle.lu_base.specs.declared.message.Message.{Message};
+ghost use Rattle.lu_base.specs.Sending.{Sent};
 ghost use Rattle.bm_code.specs.declared.operation.Service.TheVariants as S;
-ghost use Rattle.bm_code.specs.declared.world.World.{World as WorldValue};
+ghost use Rattle.lu_base.specs.declared.world.World.{World as WorldValue};
 ghost use Rattle.bm_code.specs.declared.code.MachineCode.{MachineCode as CodeValue};
 ghost use Rattle.bm_code.specs.Process.{Frame as FrameValue, Process};
 ghost use Rattle.bm_code.specs.Frames.{advanced};
@@ -20,10 +20,9 @@ use crate::outgoing::{read_message, send};
 use crate::space::{Space, allocate, free};
 use bm_code::code::{MachineCode, MachineSite};
 use bm_code::operation::Service;
-use bm_code::world::World;
 use bm_frame::frame::Frame;
 use bm_mem::Bytes;
-use lu_base::Trap;
+use lu_base::{Trap, World};
 
 /// Why a service doesn't go on.
 #[derive(Clone, Copy, Debug, PartialEq, Eq)]
@@ -70,8 +69,8 @@ fn step_allocate<B: Bytes>(
     requires place { frame.old.place + 1 < 2 ^ 64 }
     requires sites { HasKnownSites code.now }
     requires space { IsSpace code.now.types (B.content space.old.memory) space.old.objects space.old.next space.old.used }
-    ensures served { (world : WorldValue) (outbox : List (ℤ × Message)) → IsServed (S.Allocate site) code.now world (held (B.content space.old.memory) space.old.objects space.old.next outbox) (frame_of frame.old) result (held (B.content space.new.memory) space.new.objects space.new.next outbox) (frame_of frame.new) }
-    ensures kept { (outbox : List (ℤ × Message)) → OnErr result (held (B.content space.new.memory) space.new.objects space.new.next outbox ≡ held (B.content space.old.memory) space.old.objects space.old.next outbox) }
+    ensures served { (world : WorldValue) (outbox : List Sent) → IsServed (S.Allocate site) code.now world (held (B.content space.old.memory) space.old.objects space.old.next outbox) (frame_of frame.old) result (held (B.content space.new.memory) space.new.objects space.new.next outbox) (frame_of frame.new) }
+    ensures kept { (outbox : List Sent) → OnErr result (held (B.content space.new.memory) space.new.objects space.new.next outbox ≡ held (B.content space.old.memory) space.old.objects space.old.next outbox) }
     ensures frame { OnErr result (frame.new ≡ frame.old) }
     ensures space { IsSpace code.now.types (B.content space.new.memory) space.new.objects space.new.next space.new.used }
 {
@@ -96,8 +95,8 @@ fn step_free<B: Bytes>(
 ) -> Result<(), Halt>
     requires place { frame.old.place + 1 < 2 ^ 64 }
     requires space { IsSpace code.now.types (B.content space.old.memory) space.old.objects space.old.next space.old.used }
-    ensures served { (world : WorldValue) (outbox : List (ℤ × Message)) → IsServed S.Free code.now world (held (B.content space.old.memory) space.old.objects space.old.next outbox) (frame_of frame.old) result (held (B.content space.new.memory) space.new.objects space.new.next outbox) (frame_of frame.new) }
-    ensures kept { (outbox : List (ℤ × Message)) → OnErr result (held (B.content space.new.memory) space.new.objects space.new.next outbox ≡ held (B.content space.old.memory) space.old.objects space.old.next outbox) }
+    ensures served { (world : WorldValue) (outbox : List Sent) → IsServed S.Free code.now world (held (B.content space.old.memory) space.old.objects space.old.next outbox) (frame_of frame.old) result (held (B.content space.new.memory) space.new.objects space.new.next outbox) (frame_of frame.new) }
+    ensures kept { (outbox : List Sent) → OnErr result (held (B.content space.new.memory) space.new.objects space.new.next outbox ≡ held (B.content space.old.memory) space.old.objects space.old.next outbox) }
     ensures frame { OnErr result (frame.new ≡ frame.old) }
     ensures space { IsSpace code.now.types (B.content space.new.memory) space.new.objects space.new.next space.new.used }
 {
@@ -128,11 +127,11 @@ fn step_send<B: Bytes>(
     let Some(to) = frame.stack.top() else {
         return Err(Halt::Trapped(Trap::BadCode));
     };
-    let Some(message) = read_message(code, world, &space.memory, &space.objects) else {
+    let Some(message) = read_message(code, &space.memory, &space.objects) else {
         return Err(Halt::Trapped(Trap::BadCode));
     };
     let answer = send(world, outbox, to.cast_signed(), message);
-    replace_top(frame, answer);
+    replace_top(frame, answer.cast_unsigned());
     Ok(())
 }
 

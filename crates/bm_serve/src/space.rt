@@ -2,29 +2,23 @@
 
 ghost use Rattle.std.specs.Prelude.{◌≡◌, ◌+◌, ◌<◌, ◌≤◌, ◌^◌, [], ◌∷◌, ◌++◌, ℕ, List, true, false, length, replicate, All, Any, IsSome, None, IfSome, MatchOption, MatchResult, OnOk, OnErr};
 ghost use Rattle.std.specs.FinMap.{get, insert, remove};
+ghost use Rattle.lu_base.specs.Addresses.{address_after};
+ghost use Rattle.lu_base.specs.declared.limits.TheConstants.{FIRST_ADDRESS, HEAP_BYTES};
 ghost use Rattle.c_types.specs.declared.parts.Parts.{Parts};
 ghost use Rattle.c_types.specs.Layout.{size_of};
 ghost use Rattle.bm_mem.specs.Content.{IsClear};
 ghost use Rattle.bm_objects.specs.declared.row.Row.{Row as RowValue};
-ghost use Rattle.bm_objects.specs.Table.{end_of, address_after, killed};
-ghost use Rattle.bm_code.specs.Services.{heap_bytes, new_row, can_allocate};
-ghost use Rattle.bm_serve.specs.Space.{IsSpace, IsAllocated, IsRefused, IsFreed, is_heap_object};
+ghost use Rattle.bm_objects.specs.Table.{end_of, killed};
+ghost use Rattle.bm_code.specs.Services.{heap_bytes, new_row, can_allocate, is_heap_object};
+ghost use Rattle.bm_serve.specs.Space.{IsSpace, IsAllocated, IsRefused, IsFreed};
 
 use bm_code::code::MachineCode;
 use bm_frame::pointer::find_row;
 use bm_mem::Bytes;
 use bm_objects::{Objects, Row};
 use lu_base::Memory;
+use lu_base::limits::{ADDRESS_LIMIT, FIRST_ADDRESS, GAP, HEAP_BYTES};
 use std::alloc::Global;
-
-/// The address of the first object.
-const FIRST_ADDRESS: u64 = 0x1000;
-
-/// How many bytes the live objects of the heap may have.
-const HEAP_LIMIT: u64 = 4_194_304;
-
-/// The greatest address at which a next object may stand.
-const ADDRESS_LIMIT: u64 = 0xf000_0000;
 
 /// The objects of a process and their memory.
 #[derive(Drop)]
@@ -38,11 +32,11 @@ pub struct Space<B: Bytes> {
 }
 
 impl<B: Bytes> Space<B> {
-    /// No objects; the first stands at 0x1000.
+    /// No objects.
     pub fn fresh(alloc: Global) -> Self
         ensures space { (types : Parts) → IsSpace types (B.content result.memory) result.objects result.next result.used }
         ensures objects { result.objects ≡ [] }
-        ensures next { result.next ≡ 0x1000 }
+        ensures next { result.next ≡ FIRST_ADDRESS }
     {
         Space {
             memory: B::fresh(alloc),
@@ -51,6 +45,14 @@ impl<B: Bytes> Space<B> {
             used: 0,
         }
     }
+}
+
+/// The address of the object behind one.
+pub fn address_after(address: u64, size: u64) -> u64
+    requires { address + size < 2 ^ 63 }
+    ensures { result ≡ address_after address size }
+{
+    (address + size + GAP + 15) / 16 * 16
 }
 
 /// The row of so many new elements at the next address, if there may be such an object.
@@ -68,17 +70,17 @@ fn plan_object(
     ensures row { (rows : List RowValue) → used ≡ heap_bytes rows → MatchOption result (can_allocate rows (new_row code.now next site elem count) ≡ false) (λ r. (r ≡ new_row code.now next site elem count) × (can_allocate rows (new_row code.now next site elem count) ≡ true)) }
     ensures some { IfSome result (λ r. 0 < r.size) }
     ensures end { IfSome result (λ r. r.addr + r.size + 31 < 2 ^ 32) }
-    ensures used { IfSome result (λ r. used + r.size ≤ 4194304) }
+    ensures used { IfSome result (λ r. used + r.size ≤ HEAP_BYTES) }
 {
     let size = size_of(code, elem) as u64;
     let bytes = count.checked_mul(size)?;
-    if count == 0 || bytes > HEAP_LIMIT || used + bytes > HEAP_LIMIT {
+    if count == 0 || bytes > HEAP_BYTES || used + bytes > HEAP_BYTES {
         return None;
     }
     if next > ADDRESS_LIMIT {
         return None;
     }
-    if (next + bytes + 16 + 15) / 16 * 16 > ADDRESS_LIMIT {
+    if address_after(next, bytes) > ADDRESS_LIMIT {
         return None;
     }
     Some(Row {
@@ -112,7 +114,7 @@ fn put_object<B: Bytes>(space: &mut Space<B>, row: Row) -> Result<(), Memory>
     requires fresh { get (B.content space.old.memory) row.addr ≡ None }
     ensures memory { OnOk result (B.content space.new.memory ≡ insert (B.content space.old.memory) row.addr (replicate row.size 0)) }
     ensures objects { OnOk result (space.new.objects ≡ space.old.objects ++ row ∷ []) }
-    ensures next { OnOk result (space.new.next ≡ address_after row) }
+    ensures next { OnOk result (space.new.next ≡ address_after row.addr row.size) }
     ensures used { OnOk result (space.new.used ≡ space.old.used + row.size) }
     ensures kept { OnErr result ((B.content space.new.memory ≡ B.content space.old.memory) × (space.new.objects ≡ space.old.objects) × (space.new.next ≡ space.old.next) × (space.new.used ≡ space.old.used)) }
 {
@@ -123,7 +125,7 @@ fn put_object<B: Bytes>(space: &mut Space<B>, row: Row) -> Result<(), Memory>
         space.memory.unmap(row.addr);
         return Err(Memory);
     };
-    space.next = (row.addr as u64 + row.size as u64 + 16 + 15) / 16 * 16;
+    space.next = address_after(row.addr as u64, row.size as u64);
     space.used += row.size as u64;
     Ok(())
 }

@@ -1,11 +1,11 @@
 -- How far a run has come.
 use Rattle.std.proofs.Common.{◌≡◌, ◌∙◌, refl, ap, sym, subst, ℕ, ◌+◌, ◌-◌, ◌<◌, ◌≤◌, Option, Some, None, arith}
 use Rattle.bm_code.specs.declared.code.MachineCode.{MachineCode}
-use Rattle.bm_code.specs.declared.world.World.{World}
+use Rattle.lu_base.specs.declared.world.World.{World}
 use Rattle.bm_code.specs.Process.{Process}
 use Rattle.bm_code.specs.Measure.{weight}
-use Rattle.bm_run.specs.declared.calls.Stop.{Stop}
-use Rattle.bm_run.specs.Came.{Reaches, IsRun}
+use Rattle.bm_code.specs.declared.stop.Stop.{Stop}
+use Rattle.bm_code.specs.Ran.{Reaches, IsRun}
 use Rattle.bm_run.specs.Going.{IsStep}
 use Rattle.bm_run.proofs.Going.{HasGone, has_gone, reaches_self, reaches_on, stops}
 

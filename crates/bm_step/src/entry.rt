@@ -1,10 +1,11 @@
 // The entry of a call that has begun.
 
-ghost use Rattle.std.specs.Prelude.{◌≡◌, ◌≤◌, [], ℕ, ℤ, List};
-ghost use Rattle.lu_base.specs.declared.message.Message.{Message};
+ghost use Rattle.std.specs.Prelude.{◌≡◌, ◌≤◌, [], ℕ, List};
+ghost use Rattle.lu_base.specs.declared.limits.TheConstants.{LOCALS};
+ghost use Rattle.lu_base.specs.Sending.{Sent};
 ghost use Rattle.bm_mem.specs.Content.{Content};
 ghost use Rattle.bm_objects.specs.declared.row.Row.{Row};
-ghost use Rattle.bm_code.specs.declared.world.World.{World};
+ghost use Rattle.lu_base.specs.declared.world.World.{World};
 ghost use Rattle.bm_code.specs.Transfers.{entered};
 ghost use Rattle.bm_frame.specs.View.{frame_of};
 ghost use Rattle.bm_run.specs.View.{process_in};
@@ -13,10 +14,11 @@ ghost use Rattle.bm_run.specs.declared.calls.Mode.TheVariants as M;
 ghost use Rattle.bm_run.specs.Transferred.{IsSized};
 
 use bm_code::code::{MachineCode, MachineFunction};
-use bm_frame::locals::GREATEST_COUNT;
-use bm_run::calls::{Calls, Mode, Stop, spend, stop_by};
+use bm_code::stop::Stop;
+use bm_run::calls::{Calls, Mode, spend, stop_by};
 use bm_run::transfer::function_at;
 use lu_base::Trap;
+use lu_base::limits::LOCALS;
 
 /// Lets no function wait. What the frame then is, isn't said.
 fn drop_callers(calls: &mut Calls)
@@ -28,7 +30,7 @@ fn drop_callers(calls: &mut Calls)
 
 /// Makes the frame, whose locals are the arguments, that of the function at its entry. No other function is under way.
 fn open(function: &MachineFunction, calls: &mut Calls)
-    requires { function.now.locals ≤ 256 }
+    requires { function.now.locals ≤ LOCALS }
     ensures frame { frame_of calls.new.frame ≡ entered function.now calls.old.frame.function calls.old.frame.locals }
     ensures callers { calls.new.callers ≡ [] }
     ensures mode { calls.new.mode ≡ M.Running }
@@ -37,7 +39,7 @@ fn open(function: &MachineFunction, calls: &mut Calls)
     let number = calls.frame.function;
     let given = calls.frame.locals.words();
     let count = given.len();
-    let mut arguments = [0u64; GREATEST_COUNT];
+    let mut arguments = [0u64; LOCALS];
     arguments[..count].copy_from_slice(given);
     drop_callers(calls);
     calls.frame.function = number;
@@ -54,7 +56,7 @@ fn open(function: &MachineFunction, calls: &mut Calls)
 pub(crate) fn step_entry(code: &MachineCode, calls: &mut Calls, left: &mut u32) -> Option<Stop>
     requires starting { calls.old.mode ≡ M.Starting }
     requires sized { IsSized code.now }
-    ensures { (world : World) (m : Content) (rows : List Row) (next : ℕ) (outbox : List (ℤ × Message)) → IsStep code.now world left.old (process_in m rows next outbox calls.old) result left.new (process_in m rows next outbox calls.new) }
+    ensures { (world : World) (m : Content) (rows : List Row) (next : ℕ) (outbox : List Sent) → IsStep code.now world left.old (process_in m rows next outbox calls.old) result left.new (process_in m rows next outbox calls.new) }
 {
     let Some(function) = function_at(code, calls.frame.function as usize) else {
         return stop_by(calls, Trap::BadCode);

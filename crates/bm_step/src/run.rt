@@ -1,6 +1,6 @@
 // Runs.
 
-ghost use Rattle.bm_run.specs.Came.{IsRun};
+ghost use Rattle.bm_code.specs.Ran.{IsRun};
 ghost use Rattle.bm_run.specs.Transferred.{IsSized};
 ghost use Rattle.bm_run.specs.View.{process_in};
 ghost use Rattle.bm_serve.specs.Space.{IsSpace};
@@ -8,11 +8,12 @@ ghost use Rattle.bm_serve.specs.Held.{HasKnownSites};
 
 use crate::step::step;
 use bm_code::code::MachineCode;
-use bm_code::world::World;
+use bm_code::stop::Stop;
 use bm_mem::Bytes;
-use bm_run::calls::{Calls, Stop};
+use bm_run::calls::Calls;
 use bm_serve::outbox::Outbox;
 use bm_serve::space::Space;
+use lu_base::World;
 
 /// A run of so many ticks, up to its end. Where no call runs, the answer is that of the last one, and nothing changes.
 pub fn run<B: Bytes>(

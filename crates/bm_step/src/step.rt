@@ -1,8 +1,9 @@
 // One step of a run.
 
-ghost use Rattle.std.specs.Prelude.{◌≡◌, ◌+◌, ◌<◌, ◌≤◌, ◌^◌, ℕ, ℤ, List, map};
-ghost use Rattle.lu_base.specs.declared.message.Message.{Message};
-ghost use Rattle.bm_code.specs.declared.world.World.{World as WorldValue};
+ghost use Rattle.std.specs.Prelude.{◌≡◌, ◌+◌, ◌<◌, ◌≤◌, ◌^◌, ℕ, List, map};
+ghost use Rattle.lu_base.specs.declared.limits.TheConstants.{STACK_HEIGHT};
+ghost use Rattle.lu_base.specs.Sending.{Sent};
+ghost use Rattle.lu_base.specs.declared.world.World.{World as WorldValue};
 ghost use Rattle.bm_code.specs.Services.{served};
 ghost use Rattle.bm_code.specs.Step.{act};
 ghost use Rattle.bm_frame.specs.View.{frame_of};
@@ -18,15 +19,15 @@ ghost use Rattle.bm_serve.specs.Held.{HasKnownSites};
 use crate::entry::step_entry;
 use bm_code::code::{MachineCode, MachineFunction};
 use bm_code::operation::{Operation, Service, classify};
-use bm_code::world::World;
+use bm_code::stop::Stop;
 use bm_mem::Bytes;
-use bm_run::calls::{Calls, Mode, Stop, stop_by};
+use bm_run::calls::{Calls, Mode, stop_by};
 use bm_run::plain::step_plain;
 use bm_run::transfer::{function_at, step_transfer};
 use bm_serve::outbox::Outbox;
 use bm_serve::service::{Halt, step_service};
 use bm_serve::space::Space;
-use lu_base::Trap;
+use lu_base::{Trap, World};
 
 /// An instruction that concerns the frame and memory alone.
 #[inline]
@@ -40,10 +41,10 @@ fn do_plain<B: Bytes>(
     requires plain { IsPlain operation }
     requires running { calls.old.mode ≡ M.Running }
     requires place { calls.old.frame.place + 1 < 2 ^ 64 }
-    requires height { function.now.height ≤ 4096 }
+    requires height { function.now.height ≤ STACK_HEIGHT }
     requires space { IsSpace code.now.types (B.content space.old.memory) space.old.objects space.old.next space.old.used }
     ensures space { IsSpace code.now.types (B.content space.new.memory) space.new.objects space.new.next space.new.used }
-    ensures step { (world : WorldValue) (outbox : List (ℤ × Message)) (left : ℕ) → Came (act operation code.now world function.now (process_in (B.content space.old.memory) space.old.objects space.old.next outbox calls.old) (frame_of calls.old.frame) (map frame_of calls.old.callers)) (process_in (B.content space.old.memory) space.old.objects space.old.next outbox calls.old) left result left (process_in (B.content space.new.memory) space.new.objects space.new.next outbox calls.new) }
+    ensures step { (world : WorldValue) (outbox : List Sent) (left : ℕ) → Came (act operation code.now world function.now (process_in (B.content space.old.memory) space.old.objects space.old.next outbox calls.old) (frame_of calls.old.frame) (map frame_of calls.old.callers)) (process_in (B.content space.old.memory) space.old.objects space.old.next outbox calls.old) left result left (process_in (B.content space.new.memory) space.new.objects space.new.next outbox calls.new) }
 {
     match step_plain(
         operation,
@@ -96,7 +97,7 @@ fn perform<B: Bytes>(
     requires running { calls.old.mode ≡ M.Running }
     requires place { calls.old.frame.place + 1 < 2 ^ 64 }
     requires sized { IsSized code.now }
-    requires height { function.now.height ≤ 4096 }
+    requires height { function.now.height ≤ STACK_HEIGHT }
     requires sites { HasKnownSites code.now }
     requires space { IsSpace code.now.types (B.content space.old.memory) space.old.objects space.old.next space.old.used }
     ensures space { IsSpace code.now.types (B.content space.new.memory) space.new.objects space.new.next space.new.used }

@@ -4,7 +4,7 @@ use Rattle.std.specs.Prelude.{slice_get}
 use Rattle.c_types.specs.Layout.{size_of}
 use Rattle.bm_code.specs.declared.code.MachineCode.{MachineCode}
 use Rattle.bm_code.specs.declared.code.MachineGlobal.{MachineGlobal}
-use Rattle.bm_cpu.specs.Accepted.{IsAcceptedGlobal}
+use Rattle.bm_code.specs.Accepted.{IsAcceptedGlobal}
 
 some_in : {A : Type 0} (a b : A) → Some a ≡ Some b → a ≡ b
 some_in a b h = cc

@@ -4,14 +4,14 @@ ghost use Rattle.std.specs.Prelude.{◌≡◌, ◌+◌, [], length, IfOk, OnOk};
 ghost use Rattle.std.specs.Bool.{OnTrue};
 ghost use Rattle.c_types.specs.Layout.{size_of};
 ghost use Rattle.bm_code.specs.declared.code.MachineCode.{MachineCode as CodeValue};
-ghost use Rattle.bm_cpu.specs.Accepted.{IsAccepted, IsAcceptedFunction, HasParameters};
+ghost use Rattle.bm_code.specs.Accepted.{IsAccepted, IsAcceptedFunction, HasParameters};
 ghost use Rattle.machine_tests.specs.Fit.{AreAccepted};
 
 use bm_code::code::{MachineCode, MachineFunction, MachineGlobal, MachineSite};
+use bm_code::stop::Stop;
 use bm_cpu::machine::Machine;
 use bm_isa::Instr;
 use bm_mem::{Bytes, VecBytes};
-use bm_run::calls::Stop;
 use c_types::{IntKind, Parts, Sequence, Signature, Ty, TypeTable, well_numbered};
 use lu_base::{Bytes8, Name, Trap};
 use std::alloc::Global;

@@ -6,7 +6,6 @@ ghost use Rattle.bm_serve.specs.Space.{IsSpace};
 
 use bm_code::code::{MachineCode, MachineGlobal, MachineSite};
 use bm_code::operation::{Service, Writing};
-use bm_code::world::World;
 use bm_frame::frame::Frame;
 use bm_frame::writing::step_write;
 use bm_mem::{Bytes, VecBytes};
@@ -14,7 +13,7 @@ use bm_serve::outbox::Outbox;
 use bm_serve::service::{Halt, step_service};
 use bm_serve::space::Space;
 use c_types::{IntKind, Parts, Sequence, Ty, TypeTable, well_numbered};
-use lu_base::{Bytes8, Message, Trap};
+use lu_base::{Bytes8, Message, Trap, World};
 use std::alloc::Global;
 use std::test::Fail;
 

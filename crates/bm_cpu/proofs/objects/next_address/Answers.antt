@@ -11,4 +11,4 @@ returns-else-count-eq0-clause-is c =
     let rows = c.args.objects.now in
     let n = c.len-count.result in
     let long : length rows ≡ suc (n - 1) = sym c.len-count.ensures.count ∙ one_less n c.if-count-eq0.false in
-    c.address_after.ensures ∙ sym (next_after rows (n - 1) c.row.result c.row.ensures long)
+    c.address_after.ensures ∙ sym (next_after rows (n - 1) c.row-last.result c.row-last.ensures long)

@@ -1,6 +1,6 @@
 use Rattle.std.proofs.Common.{◌≡◌, ◌+◌, ◌≤◌, ◌^◌, drop}
 use Rattle.bm_serve.specs.Space.{IsSpace}
-use Rattle.bm_cpu.specs.Globals.{no_objects, with_globals}
+use Rattle.bm_code.specs.Globals.{no_objects, with_globals}
 use Rattle.bm_cpu.proofs.GlobalLemmas.{room}
 use Rattle.bm_cpu.proofs.objects.put_globals.Given as goal
 

@@ -1,7 +1,7 @@
 use Rattle.std.proofs.Common.{◌≡◌, ◌∙◌, ap, subst, take, List, ℕ}
 use Rattle.lu_spec.specs.LittleEndian.{little_endian}
 use Rattle.bm_code.specs.Access.{written_at}
-use Rattle.bm_frame.specs.Mapped.{or_bad}
+use Rattle.bm_code.specs.Mapped.{or_bad}
 use Rattle.bm_frame.specs.View.{Leaves}
 use Rattle.bm_frame.proofs.Written.{word_front}
 use Rattle.bm_frame.proofs.writing.put_number.Goals as goal

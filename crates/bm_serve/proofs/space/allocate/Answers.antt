@@ -1,6 +1,6 @@
 use Rattle.std.proofs.Common.{◌≡◌, ◌∙◌, ◌<◌, ◌+◌, ◌^◌, true, ap, sym, length, arith}
 use Rattle.bm_objects.specs.declared.row.Row.{Row}
-use Rattle.bm_code.specs.Services.{heap_part}
+use Rattle.bm_code.specs.Services.{heap_part_of}
 use Rattle.bm_serve.proofs.Added.{space_added}
 use Rattle.bm_serve.proofs.space.allocate.Goals as goal
 
@@ -14,7 +14,7 @@ returns-clause-space g c =
     let live : r.live ≡ true = ap (λ r. r.live) a.0 in
     let elem : r.elem ≡ c.args.elem = ap (λ r. r.elem) a.0 in
     let known : r.elem < length c.args.code.now.types.types = omega (arith, elem, c.requires.known) in
-    let part : heap_part r ≡ r.size = ap heap_part a.0 ∙ sym (ap (λ r. r.size) a.0) in
+    let part : heap_part_of r ≡ r.size = ap heap_part_of a.0 ∙ sym (ap (λ r. r.size) a.0) in
     let used_low : now.used + r.size < 2 ^ 60 = omega (arith, c.in-Some.ensures.used) in
     let new = c.put_object.new.space in
     let e = c.in_ok-put_object.ensures in

@@ -1,7 +1,7 @@
 use Rattle.std.proofs.Common.{◌≡◌, sym, subst, ℕ, Some}
 use Rattle.std.specs.Prelude.{slice_get}
 use Rattle.bm_code.specs.declared.code.MachineFunction.{MachineFunction}
-use Rattle.bm_cpu.specs.Accepted.{IsAcceptedFunction}
+use Rattle.bm_code.specs.Accepted.{IsAcceptedFunction}
 use Rattle.machine_tests.proofs.TestLemmas.{in_more}
 use Rattle.machine_tests.proofs.programs.add_function.Goals as goal
 

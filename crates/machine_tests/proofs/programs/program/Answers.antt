@@ -4,7 +4,7 @@ use Rattle.c_types.specs.Layout.{size_of}
 use Rattle.bm_code.specs.declared.code.MachineCode.{MachineCode}
 use Rattle.bm_code.specs.declared.code.MachineGlobal.{MachineGlobal}
 use Rattle.bm_code.specs.declared.code.MachineSite.{MachineSite}
-use Rattle.bm_cpu.specs.Accepted.{IsAcceptedGlobal, IsAcceptedSite, global_bytes}
+use Rattle.bm_code.specs.Accepted.{IsAcceptedGlobal, IsAcceptedSite, global_bytes}
 use Rattle.machine_tests.proofs.TestLemmas.{none_in, in_one, in_two, good_global}
 use Rattle.machine_tests.proofs.programs.program.Goals as goal
 

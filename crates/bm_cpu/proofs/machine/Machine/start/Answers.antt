@@ -1,5 +1,5 @@
 use Rattle.std.proofs.Common.{◌≡◌, ap, sym, subst, length}
-use Rattle.bm_cpu.specs.Accepted.{HasParameters}
+use Rattle.bm_code.specs.Accepted.{HasParameters}
 use Rattle.bm_cpu.proofs.AcceptedLemmas.{few_parameters}
 use Rattle.bm_cpu.proofs.machine.Machine.start.Goals as goal
 

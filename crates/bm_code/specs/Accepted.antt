@@ -1,5 +1,6 @@
 -- Code that the machine takes.
 use Rattle.std.specs.Prelude.{◌≡◌, ℕ, ◌+◌, ◌<◌, ◌≤◌, List, [], ◌∷◌, length, Some, slice_get}
+use Rattle.lu_base.specs.declared.limits.TheConstants.{ENTRIES, FILTERS, LOCALS, SIZE, STACK_HEIGHT}
 use Rattle.c_types.specs.declared.parts.FieldDef.{FieldDef}
 use Rattle.c_types.specs.declared.parts.Signature.{Signature}
 use Rattle.c_types.specs.declared.parts.TagDef.{TagDef}
@@ -20,8 +21,8 @@ pub record IsAcceptedFunction (code : MachineCode) (d : MachineFunction) : Type 
   pub signature : Signature
   pub has : slice_get code.types.signatures d.signature ≡ Some signature
   pub parameters : length signature.params ≤ d.locals
-  pub locals : d.locals ≤ 256
-  pub height : d.height ≤ 4096
+  pub locals : d.locals ≤ LOCALS
+  pub height : d.height ≤ STACK_HEIGHT
 
 -- a global's initial bytes are as many as its type has
 pub record IsAcceptedGlobal (code : MachineCode) (g : MachineGlobal) : Type 0 where
@@ -38,18 +39,18 @@ abbrev pub global_bytes : List MachineGlobal → ℕ
 global_bytes [] = 0
 global_bytes (g ∷ gs) = length g.bytes + global_bytes gs
 
--- Each number names an entry, and the counts and sizes keep their limits. The hidden functions are at most 64.
+-- Each number names an entry, and the counts and sizes keep their limits.
 pub record IsAccepted (code : MachineCode) : Type 0 where
   pub structs : (k : ℕ) (t : TagDef) → slice_get code.types.structs k ≡ Some t → AreNamed (length code.names) t
   pub unions : (k : ℕ) (t : TagDef) → slice_get code.types.unions k ≡ Some t → AreNamed (length code.names) t
   pub functions : (k : ℕ) (d : MachineFunction) → slice_get code.functions k ≡ Some d → IsAcceptedFunction code d
-  pub function_count : length code.functions ≤ 4160
+  pub function_count : length code.functions ≤ ENTRIES + FILTERS
   pub globals : (k : ℕ) (g : MachineGlobal) → slice_get code.globals k ≡ Some g → IsAcceptedGlobal code g
-  pub global_count : length code.globals ≤ 4096
-  pub global_size : global_bytes code.globals ≤ 1048576
+  pub global_count : length code.globals ≤ ENTRIES
+  pub global_size : global_bytes code.globals ≤ SIZE
   pub sites : (k : ℕ) (s : MachineSite) → slice_get code.sites k ≡ Some s → IsAcceptedSite code s
-  pub site_count : length code.sites ≤ 4096
-  pub filter_count : code.filters ≤ 64
+  pub site_count : length code.sites ≤ ENTRIES
+  pub filter_count : code.filters ≤ FILTERS
   pub filters_last : code.filters ≤ length code.functions
 
 -- a function has so many parameters

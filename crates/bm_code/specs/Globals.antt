@@ -1,13 +1,14 @@
 -- The objects of a program's globals.
 use Rattle.std.specs.Prelude.{ℕ, true, List, [], ◌∷◌, ◌++◌, Option, Some, None, slice_get}
 use Rattle.std.specs.FinMap as map
+use Rattle.lu_base.specs.declared.limits.TheConstants.{FIRST_ADDRESS}
+use Rattle.lu_base.specs.Addresses.{address_after}
 use Rattle.c_types.specs.declared.parts.Parts.{Parts}
 use Rattle.c_types.specs.declared.parts.Ty.{Ty}
 use Rattle.c_types.specs.declared.parts.Ty.TheVariants.{Array}
 use Rattle.c_types.specs.Layout.{size_of}
 use Rattle.bm_mem.specs.Content.{Content}
 use Rattle.bm_objects.specs.declared.row.Row.{Row}
-use Rattle.bm_objects.specs.Table.{address_after}
 use Rattle.bm_code.specs.declared.code.MachineCode.{MachineCode}
 use Rattle.bm_code.specs.declared.code.MachineGlobal.{MachineGlobal}
 use Rattle.bm_code.specs.Process.{Idle, Process}
@@ -18,9 +19,9 @@ pub record Placed : Type 0 where
   pub rows : List Row
   pub next : ℕ
 
--- no objects; the first stands at 0x1000
+-- no objects
 abbrev pub no_objects : Placed
-no_objects = record { content = map.empty; rows = []; next = 0x1000 }
+no_objects = record { content = map.empty; rows = []; next = FIRST_ADDRESS }
 
 -- the type of an object's elements, and how many there are: an array is the object of its elements
 abbrev pub elements_in : ℕ → Option Ty → ℕ × ℕ
@@ -46,7 +47,7 @@ abbrev pub with_global : Parts → Placed → MachineGlobal → Placed
 with_global types p g = record {
   content = map.insert p.content p.next g.bytes;
   rows = p.rows ++ global_row types p.next g ∷ [];
-  next = address_after (global_row types p.next g);
+  next = address_after p.next (size_of types g.ty);
 }
 
 abbrev pub with_globals : Parts → Placed → List MachineGlobal → Placed
