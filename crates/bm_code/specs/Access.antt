@@ -35,24 +35,24 @@ abbrev pub number_of : List ℕ → ℕ
 number_of [] = 0
 number_of (b ∷ bytes) = b + 256 * number_of bytes
 
--- what LOAD and STORE move: a number of an integer type, an address, or a function's word
+-- what LOAD and STORE move: a number of an integer type, or an address or a function's word of so many bytes
 pub data Scalar : Type 0 where
   Integer : IntKind → Scalar
-  Address : Scalar
-  FunctionWord : Scalar
+  Address : (size : ℕ) → Scalar
+  FunctionWord : (size : ℕ) → Scalar
 
--- the kinds of scalars by number
+-- the kinds of scalars by number: the integer types, then narrow pointers and functions, then wide ones
 abbrev pub scalars : List Scalar
 scalars =
-    Integer Char ∷ Integer UChar ∷ Integer Short ∷ Integer UShort ∷ Integer Int ∷ Integer UInt ∷ Integer LongLong ∷ Integer ULongLong ∷ Address ∷ FunctionWord ∷ []
+    Integer Char ∷ Integer UChar ∷ Integer Short ∷ Integer UShort ∷ Integer Int ∷ Integer UInt ∷ Integer LongLong ∷ Integer ULongLong ∷ Address 4 ∷ FunctionWord 4 ∷ Address 8 ∷ FunctionWord 8 ∷ []
 
 abbrev pub scalar_size : Scalar → ℕ
 scalar_size (Integer kind) = int_size kind
-scalar_size Address = 4
-scalar_size FunctionWord = 4
+scalar_size (Address size) = size
+scalar_size (FunctionWord size) = size
 
 -- the word of a scalar's bytes, as a number
 abbrev pub scalar_word : Scalar → ℕ → ℕ
 scalar_word (Integer kind) n = extended kind n
-scalar_word Address n = n
-scalar_word FunctionWord n = n
+scalar_word (Address size) n = n
+scalar_word (FunctionWord size) n = n

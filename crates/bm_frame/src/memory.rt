@@ -78,7 +78,7 @@ pub fn scalar_size(kind: u32) -> Option<u32>
         0 | 1 => Some(1),
         2 | 3 => Some(2),
         4 | 5 | 8 | 9 => Some(4),
-        6 | 7 => Some(8),
+        6 | 7 | 10 | 11 => Some(8),
         _ => None,
     }
 }

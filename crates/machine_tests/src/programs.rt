@@ -112,7 +112,7 @@ const FRAME: [Case; 41] = [
     (1, 2, Instr::ReturnValue, Stop::Returned(2)),
 ];
 
-const MEMORY: [Case; 26] = [
+const MEMORY: [Case; 31] = [
     (
         0x1000,
         8,
@@ -167,7 +167,12 @@ const MEMORY: [Case; 26] = [
     (1, 0x1000, Instr::CheckPointer { type_number: 2 }, BAD_CODE),
     (1, 0x101c, Instr::Load { kind: 4 }, Stop::Returned(0)),
     (1, 0x101d, Instr::Load { kind: 4 }, BAD_CODE),
-    (1, 0x1000, Instr::Load { kind: 10 }, BAD_CODE),
+    (1, 0x1018, Instr::Load { kind: 10 }, Stop::Returned(0)),
+    (1, 0x101c, Instr::Load { kind: 10 }, BAD_CODE),
+    (1, 0x1018, Instr::Load { kind: 11 }, Stop::Returned(0)),
+    (1, 0x1000, Instr::Load { kind: 12 }, BAD_CODE),
+    (1, 0x1018, Instr::Store { kind: 11 }, Stop::Returned(9)),
+    (1, 0x101c, Instr::Store { kind: 11 }, BAD_CODE),
     (1, 0x101c, Instr::Store { kind: 4 }, Stop::Returned(9)),
     (1, 0x101d, Instr::Store { kind: 4 }, BAD_CODE),
     (
