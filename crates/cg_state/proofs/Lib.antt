@@ -1,0 +1,11 @@
+pub mod Memory
+pub mod Typed
+pub mod Words
+pub mod HasCode
+pub mod Leads
+pub mod Tests
+pub mod Places
+pub mod Stores
+pub mod AfterWrite
+pub mod Frees
+pub mod Allocs

@@ -1,0 +1,2 @@
+pub mod Represents
+pub mod Runs
