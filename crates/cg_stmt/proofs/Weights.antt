@@ -1,5 +1,5 @@
 -- The weights of trees at each constructor as code sees it, and of lists that grow.
-use Rattle.std.proofs.Common.{◌≡◌, ◌∙◌, refl, sym, ap, ℕ, zero, suc, ◌+◌, ◌<◌, List, [], ◌∷◌, take, length, Option, get_or, arith}
+use Rattle.std.proofs.Common.{◌≡◌, ◌∙◌, refl, ap, ℕ, zero, suc, ◌+◌, ◌<◌, List, [], ◌∷◌, take, length, Option, get_or, arith}
 use Rattle.src_tree.specs.declared.expr.TypedExpr.{TypedExpr}
 use Rattle.src_tree.specs.declared.expr.TypedPlace.{TypedPlace}
 use Rattle.src_tree.specs.declared.expr.UnaryOperator.{UnaryOperator}

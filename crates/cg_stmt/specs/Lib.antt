@@ -1,0 +1,3 @@
+pub mod StatementSizes
+pub mod StatementCode
+pub mod Functions
