@@ -1,2 +1,3 @@
+pub mod Fronts
+pub mod Least
 pub mod NextMessage
-pub mod Sources

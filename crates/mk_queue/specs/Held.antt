@@ -1,5 +1,5 @@
 -- Which messages of an inbox are held back, and which one is the next.
-use Rattle.std.specs.Prelude.{◌≡◌, ◌<◌, ℕ, zero, ◌+◌, ℤ, Bool, true, ◌&&◌, ◌||◌, if◌then◌else◌, List, [], ◌∷◌, length, Option, Some, None, slice_get}
+use Rattle.std.specs.Prelude.{◌≡◌, ◌<◌, ℕ, ◌+◌, ℤ, Bool, true, ◌&&◌, ◌||◌, if◌then◌else◌, List, [], ◌∷◌, length, Option, Some, None, slice_get}
 use Rattle.std.specs.List.{list_any}
 use Rattle.std.specs.Ordering.{int_eq}
 use Rattle.lu_base.specs.declared.message.Message.{Message}
@@ -38,7 +38,3 @@ pub record IsNext (hold : Hold) (messages : List Message) (place : ℕ) : Type 0
   pub within : place < length messages
   pub free : IsHeldBack hold messages place → ⊥
   pub before : AreHeldBack hold messages place
-
--- among these is a message of that source and of a held kind
-abbrev pub has_held_source : Hold → List Message → ℤ → Bool
-has_held_source hold messages source = list_any (λ m. int_eq m.source source && is_held_kind hold m) messages

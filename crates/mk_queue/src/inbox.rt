@@ -1,46 +1,33 @@
 //! Inboxes.
 
-ghost use Rattle.std.specs.Prelude.{◌≡◌, ◌≢◌, ◌==◌, ◌<◌, ℕ, [], ◌∷◌, ◌++◌, length, remove, slice_get, true, false, Some, None, OnOk, OnErr};
-ghost use Rattle.mk_queue.specs.Held as held;
-ghost use Rattle.mk_queue.specs.Held.{IsHeldBack};
+ghost use Rattle.std.specs.Prelude.{◌≡◌, ◌==◌, ◌<◌, [], ◌∷◌, ◌++◌, length, remove, slice_get, Some, None, OnOk, OnErr};
+ghost use Rattle.mk_queue.specs.Held.{next_message};
 
-use crate::hold::{Hold, is_held_kind};
+use crate::front::{Front, least_free, make_front, note_arrival, note_removal};
+use crate::hold::Hold;
 use lu_base::{Memory, Message};
 use std::alloc::Global;
+use std::collections::VecDeque;
 use std::marker::Model;
 
-/// The messages that wait for a server. Clauses see them as a list in order of arrival.
+/// The messages that wait for a server, and for each source the place of its first message. Clauses see the messages as a
+/// list in order of arrival.
 #[derive(Debug, Drop)]
 pub struct Inbox {
-    messages: Vec<Message>,
+    messages: VecDeque<Message>,
+    fronts: Vec<Front>,
 }
 
 impl Model for Inbox {
     ghost use Rattle.std.specs.Prelude.{List};
     ghost use Rattle.lu_base.specs.declared.message.Message.{Message};
+    ghost use Rattle.mk_queue.specs.Fronts.{AreFronts};
 
     ghost Value = { List Message };
 
     ghost view = { λ inbox. inbox.messages.items };
-}
 
-/// Whether a message of the same source that is of a held kind stands among these.
-fn has_held_source(hold: &Hold, messages: &[Message], message: &Message) -> bool
-    ensures { result ≡ held.has_held_source hold.now messages.now message.now.source }
-{
-    messages
-        .iter()
-        .any(|m| m.source == message.source && is_held_kind(hold, m))
-}
-
-/// Whether the message at a place is held back.
-fn is_held_back(hold: &Hold, messages: &[Message], place: usize) -> bool
-    requires { place < length messages.now }
-    ensures held { result ≡ true → IsHeldBack hold.now messages.now place }
-    ensures free { result ≡ false → IsHeldBack hold.now messages.now place → ⊥ }
-{
-    let message = &messages[place];
-    has_held_source(hold, &messages[..place + 1], message)
+    ghost invariant = { λ inbox. AreFronts inbox.messages.items inbox.fronts.items };
 }
 
 impl Inbox {
@@ -49,7 +36,8 @@ impl Inbox {
         ensures { result ≡ [] }
     {
         Inbox {
-            messages: Vec::new(alloc),
+            messages: VecDeque::new(alloc),
+            fronts: Vec::new(alloc),
         }
     }
 
@@ -70,20 +58,19 @@ impl Inbox {
         ensures ok { OnOk result (self.new ≡ self.old ++ message ∷ []) }
         ensures err { OnErr result (self.new ≡ self.old) }
     {
-        self.messages.push(message)?;
+        let place = self.messages.len();
+        make_front(&mut self.fronts, message.source)?;
+        self.messages.push_back(message)?;
+        note_arrival(&mut self.fronts, message.source, place);
         Ok(())
     }
 
-    /// The place of the first message that isn't held back, if there is one. It takes no memory.
+    /// The place of the first message that isn't held back, if there is one. It looks at the first message of each source
+    /// alone, and takes no memory.
     pub fn next(&self, hold: &Hold) -> Option<usize>
-        ensures { result ≡ held.next_message hold.now self.now }
+        ensures { result ≡ next_message hold.now self.now }
     {
-        for i in 0..self.messages.len() {
-            if !is_held_back(hold, &self.messages, i) {
-                return Some(i);
-            }
-        }
-        None
+        least_free(hold, &self.messages, &self.fronts)
     }
 
     /// Takes the message at a place out, and leaves the others in order. It takes no memory.
@@ -92,6 +79,9 @@ impl Inbox {
         ensures message { slice_get self.old place ≡ Some result }
         ensures rest { self.new ≡ remove self.old place }
     {
-        self.messages.remove(place)
+        let message = self.messages[place];
+        let _ = self.messages.remove(place);
+        note_removal(&mut self.fronts, &self.messages, place);
+        message
     }
 }

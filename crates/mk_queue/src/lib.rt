@@ -1,6 +1,7 @@
 //! The inbox of a server, and which of its messages are held back while an update of it is active.
 #![tactic(auto)]
 
+mod front;
 mod hold;
 mod inbox;
 
