@@ -101,9 +101,14 @@ counts : ends countdown (3 ∷ []) 4 ≡ Some (Returned 0)
 unfolding ends countdown function program types world start ending_of
 counts = refl
 
-counts_ticks : left countdown (3 ∷ []) 9 ≡ 999996
+counts_ticks : left countdown (3 ∷ []) 3 ≡ 999997
 unfolding left countdown function program types world start spare_of
 counts_ticks = refl
+
+-- no tick is to spare where no call runs
+spares_none : left countdown (3 ∷ []) 9 ≡ 0
+unfolding left countdown function program types world start spare_of
+spares_none = refl
 
 counts_short : ends countdown (3 ∷ []) 3 ≡ Some Paused
 unfolding ends countdown function program types world start ending_of

@@ -12,7 +12,8 @@ use Rattle.bm_objects.specs.declared.row.Row.{Row}
 use Rattle.bm_objects.specs.Table.{end_of, reaches}
 use Rattle.bm_alu.specs.Words.{extended}
 
--- the object of an address, if it is live and has n bytes from there on
+-- The object of an address, if it is live and has n bytes from there on. The first that is found is the only one that
+-- reaches the address: bm_objects' `finds_row`.
 abbrev pub live_at : List Row → ℕ → ℕ → Option Row
 live_at rows a n = then_option (find (reaches a) rows) (λ r. if r.live && nat_le (a + n) (end_of r) then Some r else None)
 

@@ -6,6 +6,7 @@ pub mod Pointers
 pub mod Transfers
 pub mod Services
 pub mod Step
+pub mod Steps
 pub mod Run
 pub mod Measure
 pub mod Laws

@@ -60,7 +60,8 @@ pointed (Subtract size) rows p i = shifted rows size p (neg_ℤ (signed i))
 pointed (Difference size) rows p q = if nat_eq size 0 then bad else of_one_object rows p q (distance p q size)
 pointed Less rows p q = of_one_object rows p q (flag (nat_lt p q))
 
--- a live object has a place of the type at the address
+-- A live object has a place of the type at the address. The search gives exactly the paths that lead there and pass no
+-- union: c_types' `find_place-path` and `find_place-sound`.
 abbrev pub is_place : Parts → ℕ → ℕ → Option Row → Bool
 is_place types t a None = false
 is_place types t a (Some r) = r.live && is_some (find_place types r.elem r.count (a - r.addr) t)

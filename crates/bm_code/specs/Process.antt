@@ -19,7 +19,7 @@ pub data Activity : Type 0 where
   Running : (frame : Frame) (callers : List Frame) → Activity
 
 -- the bytes of each live object by its address, all objects in order, the address of the next one, what was sent
--- and to whom, and how many ticks the call may still use
+-- and to whom, and how many ticks the call may still use, which is 0 where none runs
 pub record Process : Type 0 where
   pub content : Content
   pub rows : List Row

@@ -18,10 +18,11 @@ pub data Effect : Type 0 where
   Returns : (value : ℕ) → Process → Effect
   Traps : (trap : Trap) → Process → Effect
 
+-- no call runs, and the last one trapped so, or did not; no tick is to spare, and all else is as it was
 abbrev pub idle : Option Trap → Process → Process
-idle last p = record p { activity = Idle last }
+idle last p = record p { activity = Idle last; spare = 0 }
 
--- no call runs then, and all else is as it was
+-- no call runs then
 abbrev pub trap : Trap → Process → Effect
 trap t p = Traps t (idle (Some t) p)
 

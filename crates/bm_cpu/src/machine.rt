@@ -10,7 +10,7 @@ ghost use Rattle.bm_code.specs.Ran.{IsRun};
 ghost use Rattle.bm_code.specs.Services.{is_heap_object, with_object, without_object};
 ghost use Rattle.bm_code.specs.Accepted.{IsAccepted, HasParameters};
 ghost use Rattle.bm_code.specs.Globals.{idle_process, initial_process};
-ghost use Rattle.bm_code.specs.Calls.{is_running, started, with_content, without_sends};
+ghost use Rattle.bm_code.specs.Calls.{is_running, settled, started, with_content, without_sends};
 ghost use Rattle.bm_cpu.specs.State.{with_process, no_world};
 
 use crate::objects::{heap_bytes, next_address, put_globals, put_object};
@@ -143,7 +143,8 @@ impl<'a, B: Bytes> Machine<'a, B> {
         Ok(())
     }
 
-    /// Begins a call. It spends nothing: its entry's tick is the first that `run` needs.
+    /// Begins a call, with an empty outbox and all its ticks. It spends nothing: its entry's tick is the first that `run`
+    /// needs.
     pub fn start(&mut self, function: u32, args: &[u64])
         requires idle { is_running self.old.process.activity ≡ false }
         requires parameters { HasParameters self.old.code function (length args.now) }
@@ -153,6 +154,17 @@ impl<'a, B: Bytes> Machine<'a, B> {
         self.calls.frame.function = function;
         self.calls.frame.locals.fill(args, 0);
         self.calls.spare = CALL_TICKS;
+        let sends = &mut self.outbox;
+        sends.clear();
+    }
+
+    /// Forgets that the last call trapped.
+    pub fn settle(&mut self)
+        requires idle { is_running self.old.process.activity ≡ false }
+        ensures { self.new ≡ with_process self.old (settled self.old.process) }
+    {
+        self.calls.mode = Mode::Idle(None);
+        self.calls.spare = 0;
     }
 
     /// Goes on with the call for so many ticks, up to its end. With no call running it answers the last trap or that 0

@@ -20,7 +20,7 @@ use Rattle.bm_run.specs.declared.calls.Calls.{Calls}
 use Rattle.bm_code.specs.declared.stop.Stop.{Stop}
 use Rattle.bm_code.specs.declared.stop.Stop.TheVariants as S
 use Rattle.bm_run.specs.View.{activity_in, process_in}
-use Rattle.bm_run.specs.Spent.{IsSpent, with_mode}
+use Rattle.bm_run.specs.Spent.{IsSpent, ended}
 use Rattle.bm_run.specs.Opened.{IsEntered}
 use Rattle.bm_run.specs.Came.{Came}
 
@@ -59,7 +59,7 @@ module _ (m : Content) (rows : List Row) (next : ℕ) (outbox : List Sent) where
   abbrev pub P : Calls → Process
   P c = process_in m rows next outbox c
 
-  pub came_trapped : (c d : Calls) (e : Effect) (t : Trap) (r : Option Stop) (left : ℕ) → e ≡ trap t (P c) → r ≡ Some (S.Trapped t) → d ≡ with_mode (M.Idle (Some t)) c → Came e (P c) left r left (P d)
+  pub came_trapped : (c d : Calls) (e : Effect) (t : Trap) (r : Option Stop) (left : ℕ) → e ≡ trap t (P c) → r ≡ Some (S.Trapped t) → d ≡ ended (Some t) c → Came e (P c) left r left (P d)
   came_trapped c d e t r left is result same =
       subst (λ e. Came e (P c) left r left (P d)) (sym is) (subst (λ r. Came (trap t (P c)) (P c) left r left (P d)) (sym result) (refl, ap P same))
 

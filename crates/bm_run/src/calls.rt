@@ -1,9 +1,8 @@
 // What is under way, and its ticks.
 
 ghost use Rattle.std.specs.Prelude.{◌≡◌, Some};
-ghost use Rattle.bm_run.specs.declared.calls.Mode.TheVariants as M;
 ghost use Rattle.bm_code.specs.declared.stop.Stop.TheVariants as S;
-ghost use Rattle.bm_run.specs.Spent.{IsSpent, with_mode};
+ghost use Rattle.bm_run.specs.Spent.{IsSpent, ended};
 
 use crate::callers::Callers;
 use bm_code::stop::Stop;
@@ -26,8 +25,16 @@ pub struct Calls {
     pub mode: Mode,
     pub frame: Frame,
     pub callers: Callers,
-    /// How many ticks the call may still use.
+    /// How many ticks the call may still use; 0 where none runs.
     pub spare: u32,
+}
+
+/// Leaves no call, by a trap or by none, and no tick to spare.
+pub(crate) fn end(calls: &mut Calls, last: Option<Trap>)
+    ensures { calls.new ≡ ended last calls.old }
+{
+    calls.mode = Mode::Idle(last);
+    calls.spare = 0;
 }
 
 /// Spends a tick, of the call and of the run; or says why there is none.
@@ -35,8 +42,7 @@ pub fn spend(calls: &mut Calls, left: &mut u32) -> Option<Stop>
     ensures { IsSpent calls.old left.old result calls.new left.new }
 {
     if calls.spare == 0 {
-        calls.mode = Mode::Idle(Some(Trap::Budget));
-        return Some(Stop::Trapped(Trap::Budget));
+        return stop_by(calls, Trap::Budget);
     }
     if *left == 0 {
         return Some(Stop::Paused);
@@ -49,8 +55,8 @@ pub fn spend(calls: &mut Calls, left: &mut u32) -> Option<Stop>
 /// Ends the call by a trap.
 pub fn stop_by(calls: &mut Calls, trap: Trap) -> Option<Stop>
     ensures result { result ≡ Some (S.Trapped trap) }
-    ensures calls { calls.new ≡ with_mode (M.Idle (Some trap)) calls.old }
+    ensures calls { calls.new ≡ ended (Some trap) calls.old }
 {
-    calls.mode = Mode::Idle(Some(trap));
+    end(calls, Some(trap));
     Some(Stop::Trapped(trap))
 }

@@ -9,7 +9,7 @@ ghost use Rattle.bm_code.specs.Transfers.{jump, has_room, give_back, transferred
 ghost use Rattle.bm_run.specs.declared.calls.Mode.TheVariants as M;
 ghost use Rattle.bm_run.specs.Transferred.{IsTransferred, IsEntering, IsFunction, IsSized};
 
-use crate::calls::{Calls, Mode, spend, stop_by};
+use crate::calls::{Calls, end, spend, stop_by};
 use bm_code::code::{MachineCode, MachineFunction};
 use bm_code::operation::Transfer;
 use bm_code::stop::Stop;
@@ -97,7 +97,7 @@ fn give_back(calls: &mut Calls, word: Option<u64>) -> Option<Stop>
     ensures { (left : ℕ) → IsTransferred (λ p f callers. give_back word p callers) calls.old left result calls.new left }
 {
     if !calls.callers.leave(&mut calls.frame) {
-        calls.mode = Mode::Idle(None);
+        end(calls, None);
         return Some(Stop::Returned(word.unwrap_or(0)));
     }
     if let Some(word) = word {
