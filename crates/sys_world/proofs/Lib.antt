@@ -1,0 +1,4 @@
+mod Sample
+mod RunExamples
+mod UpdateExamples
+pub mod Ending

@@ -1,0 +1,12 @@
+pub mod Setup
+pub mod World
+pub mod Mail
+pub mod Naming
+pub mod Dump
+pub mod Attempt
+pub mod Turn
+pub mod Steps
+pub mod Shortages
+pub mod Transcript
+pub mod Replay
+pub mod Laws
