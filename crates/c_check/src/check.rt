@@ -1,8 +1,9 @@
 // The program that a text denotes.
 
-ghost use Rattle.std.specs.Prelude.{◌≡◌, IfOk, IfErr};
+ghost use Rattle.std.specs.Prelude.{◌≡◌, IfOk, IfErr, IsTrue};
 ghost use Rattle.c_check_table.specs.Outlines as outlines;
 ghost use Rattle.c_ast.specs.Trees.{declarations};
+ghost use Rattle.c_types.specs.Numbering.{is_pointer_size};
 ghost use Rattle.src_meaning.specs.Valid.{IsValid};
 ghost use Rattle.c_check_decl.specs.Globals as globals;
 ghost use Rattle.c_check.specs.Verdict as spec;
@@ -93,11 +94,12 @@ fn types_alone(alloc: Global, table: TypeTable) -> Program
     }
 }
 
-/// The table of the types of a text. Want of memory also where none can be made, or it hasn't all that it is asked for.
-fn table_of(alloc: Global, text: &[Decl]) -> Result<TypeTable, AllocError>
-    ensures { IfOk result (IsTableOf (declarations text.now)) }
+/// The table of the types of a text whose pointers take so many bytes. Want of memory also where none can be made, or it
+/// hasn't all that it is asked for.
+fn table_of(alloc: Global, pointer: u32, text: &[Decl]) -> Result<TypeTable, AllocError>
+    ensures { IfOk result (IsTableOf pointer (declarations text.now)) }
 {
-    let Some(table) = make_table(alloc, text)? else {
+    let Some(table) = make_table(alloc, pointer, text)? else {
         return Err(AllocError);
     };
     let has_text = has_text(alloc, &table, text)?;
@@ -162,25 +164,30 @@ fn verdict(
 }
 
 /// The program that a text denotes, or its first declaration that breaks a rule.
-fn denoted(alloc: Global, text: &[Decl]) -> Result<Result<Program, Broken>, AllocError>
-    ensures program { IfOk result (λ r. IfOk r (Denotes (declarations text.now))) }
-    ensures broken { IfOk result (λ r. IfErr r (Breaks (declarations text.now))) }
+fn denoted(
+    alloc: Global,
+    pointer: u32,
+    text: &[Decl],
+) -> Result<Result<Program, Broken>, AllocError>
+    ensures program { IfOk result (λ r. IfOk r (Denotes pointer (declarations text.now))) }
+    ensures broken { IfOk result (λ r. IfErr r (Breaks pointer (declarations text.now))) }
 {
-    let table = table_of(alloc, text)?;
+    let table = table_of(alloc, pointer, text)?;
     let judged = verdict(alloc, table, text)?;
     Ok(judged)
 }
 
-/// The program that a text denotes, which is valid, or the first declaration of the text that breaks a rule, with the
-/// least code of the rules that it breaks. Want of memory also where the types of the text are no table, or the program
+/// The program that a text denotes where pointers take so many bytes, which is valid, or the first declaration of the text
+/// that breaks a rule, with the least code of the rules that it breaks. Want of memory also where the types of the text are no table, or the program
 /// isn't valid, as where the tree of the text passes the limits of its grammar.
 #[tactic(auto, using(crate::proofs::Denoting::refuses))]
-pub fn check(alloc: Global, text: &[Decl]) -> Result<Program, CheckError>
-    ensures denoted { IfOk result (Denotes (declarations text.now)) }
+pub fn check_as(alloc: Global, text: &[Decl], pointer: u32) -> Result<Program, CheckError>
+    requires { IsTrue (is_pointer_size pointer) }
+    ensures denoted { IfOk result (Denotes pointer (declarations text.now)) }
     ensures valid { IfOk result IsValid }
-    ensures refused { IfErr result (Refuses (declarations text.now)) }
+    ensures refused { IfErr result (Refuses pointer (declarations text.now)) }
 {
-    match denoted(alloc, text)? {
+    match denoted(alloc, pointer, text)? {
         Err(broken) => Err(CheckError::Rule {
             decl: broken.decl,
             code: broken.rules.least(),
@@ -193,4 +200,13 @@ pub fn check(alloc: Global, text: &[Decl]) -> Result<Program, CheckError>
             }
         }
     }
+}
+
+/// As `check_as`, where pointers take 4 bytes.
+pub fn check(alloc: Global, text: &[Decl]) -> Result<Program, CheckError>
+    ensures denoted { IfOk result (Denotes 4 (declarations text.now)) }
+    ensures valid { IfOk result IsValid }
+    ensures refused { IfErr result (Refuses 4 (declarations text.now)) }
+{
+    check_as(alloc, text, 4)
 }

@@ -14,21 +14,22 @@ use Rattle.c_check_table.specs.declared.draft.Draft.{Draft}
 abbrev pub place_of : List Ty → Ty → ℕ
 place_of types ty = position_or_len (same_type ty) types
 
-abbrev pub nothing : Draft
-nothing = record { types = []; shapes = []; signatures = []; structs = []; unions = [] }
+-- with pointers of so many bytes
+abbrev pub nothing : ℕ → Draft
+nothing pointer = record { pointer = pointer; types = []; shapes = []; signatures = []; structs = []; unions = [] }
 
 -- a type of this size and alignment, at the end, if it isn't there
 unfoldable pub with_type : Draft → Ty → Shape → Draft
 with_type d ty s =
     if list_any (same_type ty) d.types then d else record d { types = d.types ++ (ty ∷ []); shapes = d.shapes ++ (s ∷ []) }
 
-abbrev pub pointer_shape : Shape
-pointer_shape = shape 4 4
+abbrev pub pointer_shape : Draft → Shape
+pointer_shape d = shape d.pointer d.pointer
 
 -- so many pointer types over the type of a number
 abbrev pub with_pointers : Draft → ℕ → ℕ → Draft
 with_pointers d zero t = d
-with_pointers d (suc n) t = with_pointers (with_type d (T.Pointer t) pointer_shape) n (place_of d.types (T.Pointer t))
+with_pointers d (suc n) t = with_pointers (with_type d (T.Pointer t) (pointer_shape d)) n (place_of d.types (T.Pointer t))
 
 -- a type with the pointer types that have at most so many stars over it
 unfoldable pub with_stars : Draft → ℕ → Ty → Shape → Draft
@@ -40,4 +41,4 @@ shapes d = shape_at d.shapes
 
 -- the table
 abbrev pub parts_of : Draft → Parts
-parts_of d = record { pointer = 4; types = d.types; structs = d.structs; unions = d.unions; signatures = d.signatures }
+parts_of d = record { pointer = d.pointer; types = d.types; structs = d.structs; unions = d.unions; signatures = d.signatures }

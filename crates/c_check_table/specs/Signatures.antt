@@ -14,7 +14,7 @@ use Rattle.c_check_table.specs.Drafts.{place_of, pointer_shape, with_stars}
 
 abbrev pub next_signature : Draft → Signature → ℕ → Draft × ℕ
 next_signature d g n =
-    (with_stars (record d { signatures = d.signatures ++ (g ∷ []) }) 9 (T.Function n) pointer_shape, place_of d.types (T.Function n))
+    (with_stars (record d { signatures = d.signatures ++ (g ∷ []) }) 9 (T.Function n) (pointer_shape d), place_of d.types (T.Function n))
 
 abbrev pub signed_at : Draft → Signature → Option ℕ → Draft × ℕ
 signed_at d g (Some n) = (d, place_of d.types (T.Function n))

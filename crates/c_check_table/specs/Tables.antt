@@ -14,7 +14,7 @@ use Rattle.c_check_table.specs.declared.outline.Outline.{Outline}
 use Rattle.c_check_table.specs.Outlines.{outline}
 use Rattle.c_check_table.specs.Predeclared.{start_scope}
 use Rattle.c_check_table.specs.declared.draft.Draft.{Draft}
-use Rattle.c_check_table.specs.Drafts.{nothing, pointer_shape, with_stars, parts_of}
+use Rattle.c_check_table.specs.Drafts.{nothing, with_stars, parts_of}
 use Rattle.c_check_table.specs.Signatures as signatures
 use Rattle.c_check_table.specs.Records as records
 
@@ -40,11 +40,12 @@ abbrev pub with_unions : Draft → ℕ → Draft
 with_unions d zero = d
 with_unions d (suc n) = with_stars (with_unions d n) 9 (T.Union n) no_shape
 
-abbrev pub scalars : Draft
-scalars = with_stars (with_ints nothing int_kinds) 8 T.VoidPointer pointer_shape
+-- in a table whose pointers take so many bytes
+abbrev pub scalars : ℕ → Draft
+scalars pointer = with_stars (with_ints (nothing pointer) int_kinds) 8 T.VoidPointer (shape pointer pointer)
 
-unfoldable pub base : Outline → Draft
-base o = with_unions (with_structs scalars o.structs) o.unions
+unfoldable pub base : ℕ → Outline → Draft
+base pointer o = with_unions (with_structs (scalars pointer) o.structs) o.unions
 
 -- ---- the scope in which types are looked up: that before the text, with what each table begins with
 
@@ -57,32 +58,33 @@ abbrev pub all_unknown : ℕ → ℕ → List TagDef
 all_unknown tag zero = []
 all_unknown tag (suc n) = all_unknown tag n ++ (unknown (tag + n) ∷ [])
 
-unfoldable pub base_parts : Outline → Parts
-base_parts o =
+unfoldable pub base_parts : ℕ → Outline → Parts
+base_parts pointer o =
     record {
-      pointer = 4;
-      types = (base o).types;
+      pointer = pointer;
+      types = (base pointer o).types;
       structs = all_unknown 0 o.structs;
       unions = all_unknown o.structs o.unions;
       signatures = [];
     }
 
-abbrev pub base_scope : Outline → Scope
-base_scope o = start_scope (base_parts o) o.names o.tags
+abbrev pub base_scope : ℕ → Outline → Scope
+base_scope pointer o = start_scope (base_parts pointer o) o.names o.tags
 
 -- ---- the table
 
 unfoldable pub draft_in : Scope → Draft → List Declaration → Draft
 draft_in scope d text = records.in_text scope (records.with_message (signatures.in_text scope d text)) text
 
-abbrev pub draft_of : Outline → List Declaration → Draft
-draft_of o text = draft_in (base_scope o) (base o) text
+abbrev pub draft_of : ℕ → Outline → List Declaration → Draft
+draft_of pointer o text = draft_in (base_scope pointer o) (base pointer o) text
 
 -- The integer types, `void *`, the structs, the unions, and a pointer type for each signature along the text, all
--- with their pointers; and then `int[6]` and the arrays along the text
-unfoldable pub types_of : List Declaration → Parts
-types_of text = parts_of (draft_of (outline text) text)
+-- with their pointers; and then `int[6]` and the arrays along the text. Pointers take so many bytes, 4 or 8.
+unfoldable pub types_of : ℕ → List Declaration → Parts
+types_of pointer text = parts_of (draft_of pointer (outline text) text)
 
 -- the types of a text, or what each table begins with, are no table
-abbrev pub IsNoTable : List Declaration → Type 0
-IsNoTable text = (IsBuilt (types_of text) → ⊥) ⊎ (IsBuilt (base_parts (outline text)) → ⊥)
+abbrev pub IsNoTable : ℕ → List Declaration → Type 0
+IsNoTable pointer text =
+    (IsBuilt (types_of pointer text) → ⊥) ⊎ (IsBuilt (base_parts pointer (outline text)) → ⊥)

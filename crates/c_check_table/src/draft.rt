@@ -11,12 +11,11 @@ use sqlite_items::Items;
 use std::alloc::{AllocError, Global};
 use std::mem::replace;
 
-/// The size and the alignment of pointers.
-pub const POINTER: Shape = Shape { size: 4, align: 4 };
-
 /// A table of types that is being made.
 #[derive(Drop)]
 pub struct Draft {
+    /// The bytes of a pointer, which are its alignment too: 4 or 8.
+    pub pointer: u32,
     pub types: TypeList,
     /// The size and the alignment of each type. A struct or union has its own from its declaration on.
     pub shapes: Items<Shape>,
@@ -40,11 +39,12 @@ impl Shaped for Draft {
 }
 
 impl Draft {
-    /// It takes no memory.
-    pub fn new(alloc: Global) -> Draft
-        ensures { result ≡ spec.nothing }
+    /// With pointers of so many bytes. It takes no memory.
+    pub fn new(alloc: Global, pointer: u32) -> Draft
+        ensures { result ≡ spec.nothing pointer }
     {
         Draft {
+            pointer,
             types: TypeList::new(alloc),
             shapes: Items::new(alloc),
             signatures: Sequence::from_vec(Vec::new(alloc)),
@@ -77,13 +77,24 @@ impl Draft {
         as_number(number)
     }
 
+    /// The size and the alignment of pointers.
+    pub fn pointer_shape(&self) -> Shape
+        ensures { result ≡ spec.pointer_shape self.now }
+    {
+        Shape {
+            size: self.pointer,
+            align: self.pointer,
+        }
+    }
+
     fn add_pointers(&mut self, stars: u8, number: TyId) -> Result<(), AllocError>
         ensures { OnOk result (self.new ≡ spec.with_pointers self.old stars number) }
     {
         if stars == 0 {
             return Ok(());
         }
-        let pointer = self.add(Ty::Pointer(number), POINTER)?;
+        let shape = self.pointer_shape();
+        let pointer = self.add(Ty::Pointer(number), shape)?;
         self.add_pointers(stars - 1, pointer)
     }
 
@@ -115,7 +126,7 @@ pub fn parts_of(alloc: Global, draft: Draft) -> Result<Parts, AllocError>
 {
     let types = draft.types.copy(alloc)?;
     Ok(Parts {
-        pointer: 4,
+        pointer: draft.pointer,
         types,
         structs: draft.structs,
         unions: draft.unions,

@@ -42,11 +42,16 @@ fn add_text(draft: &mut Draft, alloc: Global, scope: Scope, text: &[Decl]) -> Re
 }
 
 /// The scope in which types are looked up; none where there is no table that has only what each begins with.
-fn base_scope(alloc: Global, draft: &Draft, outline: Outline) -> Result<Option<Scope>, AllocError>
-    requires { draft.now ≡ spec.base outline }
-    ensures { IfOk result (λ scope. MatchOption scope (IsBuilt (spec.base_parts outline) → ⊥) (λ scope. scope ≡ spec.base_scope outline)) }
+fn base_scope(
+    alloc: Global,
+    pointer: u32,
+    draft: &Draft,
+    outline: Outline,
+) -> Result<Option<Scope>, AllocError>
+    requires { draft.now ≡ spec.base pointer outline }
+    ensures { IfOk result (λ scope. MatchOption scope (IsBuilt (spec.base_parts pointer outline) → ⊥) (λ scope. scope ≡ spec.base_scope pointer outline)) }
 {
-    let parts = base_parts(alloc, draft, &outline)?;
+    let parts = base_parts(alloc, pointer, draft, &outline)?;
     match built(alloc, parts)? {
         None => Ok(None),
         Some(table) => {
@@ -58,15 +63,19 @@ fn base_scope(alloc: Global, draft: &Draft, outline: Outline) -> Result<Option<S
 
 /// The table of the types of a text: the integer types, `void *`, the structs and unions, and the function pointer type
 /// of each signature along the text, each with the pointer types that have at most nine stars over one of these or over
-/// `void`; and then `int[6]` and the arrays along the text. None where these are no table, or what each table begins with
-/// is none.
+/// `void`; and then `int[6]` and the arrays along the text. Pointers take so many bytes, 4 or 8. None where these are no
+/// table, or what each table begins with is none.
 #[tactic(auto, unfolding(crate::specs::Tables::types_of))]
-pub fn make_table(alloc: Global, text: &[Decl]) -> Result<Option<TypeTable>, AllocError>
-    ensures { IfOk result (λ table. MatchOption table (spec.IsNoTable (declarations text.now)) (λ table. table ≡ spec.types_of (declarations text.now))) }
+pub fn make_table(
+    alloc: Global,
+    pointer: u32,
+    text: &[Decl],
+) -> Result<Option<TypeTable>, AllocError>
+    ensures { IfOk result (λ table. MatchOption table (spec.IsNoTable pointer (declarations text.now)) (λ table. table ≡ spec.types_of pointer (declarations text.now))) }
 {
     let outline = outline(alloc, text)?;
-    let mut draft = base(alloc, &outline)?;
-    let Some(scope) = base_scope(alloc, &draft, outline)? else {
+    let mut draft = base(alloc, pointer, &outline)?;
+    let Some(scope) = base_scope(alloc, pointer, &draft, outline)? else {
         return Ok(None);
     };
     add_text(&mut draft, alloc, scope, text)?;

@@ -4,7 +4,7 @@ ghost use Rattle.std.specs.Prelude.{◌≡◌, IfOk, OnOk, [], Ok, None};
 ghost use Rattle.c_ast.specs.Trees.{parameter, parameters};
 ghost use Rattle.c_check_table.specs.Signatures as spec;
 
-use crate::draft::{Draft, POINTER, push};
+use crate::draft::{Draft, push};
 use c_ast::stmt::Param;
 use c_ast::types::TypeName;
 use c_check_expr::params::{made_signature, one_more, param_type, result_type};
@@ -24,7 +24,8 @@ fn add_next(draft: &mut Draft, alloc: Global, signature: Signature) -> Result<Ty
 {
     let number = as_number(draft.signatures.as_slice().len())?;
     push(&mut draft.signatures, alloc, signature)?;
-    draft.add_with_pointers(GREATEST_STARS, Ty::Function(number), POINTER)
+    let shape = draft.pointer_shape();
+    draft.add_with_pointers(GREATEST_STARS, Ty::Function(number), shape)
 }
 
 /// Adds a signature, if it isn't there, with the type of pointers to its functions, and gives the number of this type.

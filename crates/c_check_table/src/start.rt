@@ -6,7 +6,7 @@ ghost use Rattle.c_types.specs.Layout.{shape};
 ghost use Rattle.c_check_table.specs.Drafts.{with_stars};
 ghost use Rattle.c_check_table.specs.Tables as spec;
 
-use crate::draft::{Draft, POINTER};
+use crate::draft::Draft;
 use crate::outline::Outline;
 use crate::signatures::GREATEST_STARS;
 use c_check_scope::numbers::next;
@@ -23,10 +23,10 @@ fn add_int(draft: &mut Draft, kind: IntKind, size: u32) -> Result<(), AllocError
     Ok(())
 }
 
-fn scalars(alloc: Global) -> Result<Draft, AllocError>
-    ensures { IfOk result (λ draft. draft ≡ spec.scalars) }
+fn scalars(alloc: Global, pointer: u32) -> Result<Draft, AllocError>
+    ensures { IfOk result (λ draft. draft ≡ spec.scalars pointer) }
 {
-    let mut draft = Draft::new(alloc);
+    let mut draft = Draft::new(alloc, pointer);
     add_int(&mut draft, IntKind::Char, 1)?;
     add_int(&mut draft, IntKind::UChar, 1)?;
     add_int(&mut draft, IntKind::Short, 2)?;
@@ -35,7 +35,11 @@ fn scalars(alloc: Global) -> Result<Draft, AllocError>
     add_int(&mut draft, IntKind::UInt, 4)?;
     add_int(&mut draft, IntKind::LongLong, 8)?;
     add_int(&mut draft, IntKind::ULongLong, 8)?;
-    draft.add_with_pointers(GREATEST_STARS - 1, Ty::VoidPointer, POINTER)?;
+    let shape = Shape {
+        size: pointer,
+        align: pointer,
+    };
+    draft.add_with_pointers(GREATEST_STARS - 1, Ty::VoidPointer, shape)?;
     Ok(draft)
 }
 
@@ -57,12 +61,12 @@ fn add_unions(draft: &mut Draft, count: u32) -> Result<(), AllocError>
     Ok(())
 }
 
-/// The integer types, `void *`, and the structs and unions, with their pointers.
+/// The integer types, `void *`, and the structs and unions, with their pointers, each of so many bytes.
 #[tactic(auto, unfolding(crate::specs::Tables::base))]
-pub fn base(alloc: Global, outline: &Outline) -> Result<Draft, AllocError>
-    ensures { IfOk result (λ draft. draft ≡ spec.base outline.now) }
+pub fn base(alloc: Global, pointer: u32, outline: &Outline) -> Result<Draft, AllocError>
+    ensures { IfOk result (λ draft. draft ≡ spec.base pointer outline.now) }
 {
-    let mut draft = scalars(alloc)?;
+    let mut draft = scalars(alloc, pointer)?;
     add_structs(&mut draft, outline.structs)?;
     add_unions(&mut draft, outline.unions)?;
     Ok(draft)
@@ -84,12 +88,17 @@ fn all_unknown(alloc: Global, first: u32, count: u32) -> Result<Sequence<TagDef>
 
 /// The lists of a table that has only what each begins with.
 #[tactic(auto, unfolding(crate::specs::Tables::base_parts))]
-pub fn base_parts(alloc: Global, draft: &Draft, outline: &Outline) -> Result<Parts, AllocError>
-    requires { draft.now ≡ spec.base outline.now }
-    ensures { IfOk result (λ parts. parts ≡ spec.base_parts outline.now) }
+pub fn base_parts(
+    alloc: Global,
+    pointer: u32,
+    draft: &Draft,
+    outline: &Outline,
+) -> Result<Parts, AllocError>
+    requires { draft.now ≡ spec.base pointer outline.now }
+    ensures { IfOk result (λ parts. parts ≡ spec.base_parts pointer outline.now) }
 {
     Ok(Parts {
-        pointer: 4,
+        pointer,
         types: draft.types.copy(alloc)?,
         structs: all_unknown(alloc, 0, outline.structs)?,
         unions: all_unknown(alloc, outline.structs, outline.unions)?,

@@ -4,6 +4,7 @@ mod declared;
 mod limits;
 mod linked_servers;
 mod plain_servers;
+mod pointers;
 mod typed;
 mod verdicts;
 

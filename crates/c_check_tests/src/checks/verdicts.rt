@@ -1,21 +1,41 @@
 // What the checker answers to texts, beside what its rules say of them.
 
-use c_check::check::check;
+use c_check::check::{check, check_as};
 use c_check_scope::error::CheckError;
 use c_lex::lex;
 use c_parse::program::parse;
+use src_tree::program::Program;
 use std::alloc::Global;
 use std::test::Fail;
+
+/// The declaration and the code that a refusal of this text names; 0 and 0 where it was accepted.
+fn named(
+    alloc: Global,
+    text: &str,
+    checked: Result<Program, CheckError>,
+) -> Result<(usize, u32), Fail> {
+    match checked {
+        Ok(_) => Ok((0, 0)),
+        Err(CheckError::Rule { decl, code }) => Ok((decl, code)),
+        Err(CheckError::Memory) => Err(Fail::new(format!(in alloc; "out of memory: {text}")?)),
+    }
+}
 
 /// The declaration and the code that a refusal of this text names; 0 and 0 where it is accepted.
 pub fn verdict(alloc: Global, text: &str) -> Result<(usize, u32), Fail> {
     let tokens = lex(alloc, text.as_bytes())?;
     let tree = parse(alloc, tokens.as_slice())?;
-    match check(alloc, tree.as_slice()) {
-        Ok(_) => Ok((0, 0)),
-        Err(CheckError::Rule { decl, code }) => Ok((decl, code)),
-        Err(CheckError::Memory) => Err(Fail::new(format!(in alloc; "out of memory: {text}")?)),
+    named(alloc, text, check(alloc, tree.as_slice()))
+}
+
+/// The same where pointers take so many bytes.
+pub fn verdict_as(alloc: Global, text: &str, pointer: u32) -> Result<(usize, u32), Fail> {
+    let tokens = lex(alloc, text.as_bytes())?;
+    let tree = parse(alloc, tokens.as_slice())?;
+    if pointer != 4 && pointer != 8 {
+        return Err("no size of a pointer".into());
     }
+    named(alloc, text, check_as(alloc, tree.as_slice(), pointer))
 }
 
 /// The handlers that a text needs, and that a line of a table leaves out.

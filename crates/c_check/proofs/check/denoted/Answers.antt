@@ -4,8 +4,8 @@ use Rattle.c_check.proofs.check.denoted.Goals as goal
 
 pub returns-clause-program : goal.returns-clause-program
 returns-clause-program c =
-    denotes (declarations c.args.text.now) c.in_ok-table.table c.in_ok-judged.judged c.in_ok-table.ensures c.in_ok-judged.ensures.verdict c.in_ok-judged.ensures.types
+    denotes c.args.pointer (declarations c.args.text.now) c.in_ok-table.table c.in_ok-judged.judged c.in_ok-table.ensures c.in_ok-judged.ensures.verdict c.in_ok-judged.ensures.types
 
 pub returns-clause-broken : goal.returns-clause-broken
 returns-clause-broken c =
-    breaks (declarations c.args.text.now) c.in_ok-table.table c.in_ok-judged.judged c.in_ok-table.ensures c.in_ok-judged.ensures.verdict
+    breaks c.args.pointer (declarations c.args.text.now) c.in_ok-table.table c.in_ok-judged.judged c.in_ok-table.ensures c.in_ok-judged.ensures.verdict
