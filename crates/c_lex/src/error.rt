@@ -2,13 +2,13 @@ use lu_base::Memory;
 use std::error::Error;
 use std::fmt;
 
-/// Why a text has no tokens. Lines and columns count from 1, and a column counts bytes.
+/// Why a text has no tokens. The line `line` and the column `col` count from 1, and a column counts bytes.
 #[derive(Clone, Copy, Debug, PartialEq, Eq)]
 pub enum LexError {
     /// The first byte at which no token begins, or at which a comment, a character or a string begins that is not complete.
-    BadByte { line: usize, column: usize },
+    BadByte { line: usize, col: usize },
     /// The first digit of a number that has no form of a number, or a value that no type holds.
-    BadNumber { line: usize, column: usize },
+    BadNumber { line: usize, col: usize },
     /// An allocation was refused.
     Memory,
 }
@@ -16,15 +16,15 @@ pub enum LexError {
 impl fmt::Display for LexError {
     fn fmt<W: fmt::Write>(&self, f: &mut fmt::Formatter<W>) -> fmt::Result {
         match self {
-            LexError::BadByte { line, column } => {
+            LexError::BadByte { line, col } => {
                 let line = *line;
-                let column = *column;
-                write!(f, "line {line}, column {column}: no token begins here")
+                let col = *col;
+                write!(f, "line {line}, column {col}: no token begins here")
             }
-            LexError::BadNumber { line, column } => {
+            LexError::BadNumber { line, col } => {
                 let line = *line;
-                let column = *column;
-                write!(f, "line {line}, column {column}: not a number")
+                let col = *col;
+                write!(f, "line {line}, column {col}: not a number")
             }
             LexError::Memory => f.write_str("out of memory"),
         }

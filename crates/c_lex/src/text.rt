@@ -39,14 +39,14 @@ fn read(alloc: Global, text: &[u8]) -> Result<Vec<Token>, LexError>
                 let before = &text[..at];
                 return Err(LexError::BadByte {
                     line: line_behind(before),
-                    column: column_behind(before),
+                    col: column_behind(before),
                 });
             }
             Err(Fault::BadNumber) => {
                 let before = &text[..at];
                 return Err(LexError::BadNumber {
                     line: line_behind(before),
-                    column: column_behind(before),
+                    col: column_behind(before),
                 });
             }
             Err(Fault::Memory) => return Err(LexError::Memory),

@@ -12,12 +12,13 @@ use Rattle.c_lex.specs.Refusal.{IsRefused}
 use Rattle.src_tree.specs.declared.program.Program.{Program}
 use Rattle.src_tree.specs.declared.expr.TypedExpr.{TypedExpr}
 use Rattle.src_meaning.specs.ValidTypes.{is_integer}
+use Rattle.src_meaning.specs.Valid.{IsValidExpression}
 use Rattle.c_check_scope.specs.Rules.{IsLeast}
 use Rattle.c_check_expr.specs.Typing.{typed}
 use Rattle.c_check.specs.ProgramScope.{scope_of}
 use Rattle.c_check.specs.Refusals.{breaks_rule}
 use Rattle.lu_filter.specs.declared.error.FilterError.{FilterError}
-use Rattle.lu_filter.specs.declared.error.FilterError.TheVariants.{BadByte, BadNumber, Syntax, TooDeep, Rule, NotInteger, Memory}
+use Rattle.lu_filter.specs.declared.error.FilterError.TheVariants.{BadByte, BadNumber, Syntax, TooDeep, Rule, NotInt, Memory}
 
 -- the text has tokens, and they spell the expression
 pub record Spells (text : Text) (e : Expression) : Type 0 where
@@ -31,13 +32,14 @@ pub record Denotes (program : Program) (text : Text) (filter : TypedExpr) : Type
   pub read : Spells text expression
   pub typed_so : typed (scope_of program) expression ≡ Ok filter
 
-abbrev pub has_integer_type : Program → TypedExpr → Type 0
-has_integer_type program e = is_integer (slice_get program.types.types e.ty) ≡ true
+abbrev pub HasIntegerType : Program → TypedExpr → Type 0
+HasIntegerType program e = is_integer (slice_get program.types.types e.ty) ≡ true
 
--- a filter has an integer type
+-- a filter is a valid expression of an integer type
 pub record IsFilter (program : Program) (text : Text) (filter : TypedExpr) : Type 0 where
   pub denoted : Denotes program text filter
-  pub integer : has_integer_type program filter
+  pub valid : IsValidExpression program filter
+  pub integer : HasIntegerType program filter
 
 -- the text has tokens that are refused so
 pub record IsMisread (text : Text) (cause : Fault) : Type 0 where
@@ -64,5 +66,5 @@ Refuses program text (BadNumber column) = (line : ℕ) × IsRefused text (lex.Ba
 Refuses program text Syntax = IsMisread text fault.Syntax
 Refuses program text TooDeep = IsMisread text fault.TooDeep
 Refuses program text (Rule code) = BreaksFirst program text code
-Refuses program text NotInteger = IsNoInteger program text
+Refuses program text NotInt = IsNoInteger program text
 Refuses program text Memory = ⊤

@@ -10,13 +10,13 @@ use c_check_scope::error::CheckError;
 use c_lex::LexError;
 use c_parse_expr::error::ParseError;
 
-/// Why a text is no filter of a program. A column counts bytes from 1, within its own line of the text.
+/// Why a text is no filter of a program. The column `col` counts bytes from 1, within its own line of the text.
 #[derive(Clone, Copy, Debug, PartialEq, Eq)]
 pub enum FilterError {
     /// No token begins at this column, or one that is not complete.
-    BadByte { column: usize },
+    BadByte { col: usize },
     /// The number that begins at this column has no form of a number, or a value that no type holds.
-    BadNumber { column: usize },
+    BadNumber { col: usize },
     /// The tokens are no expression.
     Syntax,
     /// A limit of nesting, of a chain's operators, of a place's steps or of a type's stars is passed first.
@@ -24,7 +24,7 @@ pub enum FilterError {
     /// The least code of the typing rules that the expression breaks.
     Rule { code: u32 },
     /// The expression has a type that is no integer type.
-    NotInteger,
+    NotInt,
     /// Memory is wanted.
     Memory,
 }
@@ -34,8 +34,8 @@ pub(crate) fn of_tokens(error: LexError) -> FilterError
     ensures { result ≡ of_tokens error }
 {
     match error {
-        LexError::BadByte { line: _, column } => FilterError::BadByte { column },
-        LexError::BadNumber { line: _, column } => FilterError::BadNumber { column },
+        LexError::BadByte { line: _, col } => FilterError::BadByte { col },
+        LexError::BadNumber { line: _, col } => FilterError::BadNumber { col },
         LexError::Memory => FilterError::Memory,
     }
 }

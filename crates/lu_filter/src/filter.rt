@@ -3,6 +3,7 @@
 ghost use Rattle.std.specs.Prelude.{◌≡◌, ⊤, IfOk, IfErr, slice_get};
 ghost use Rattle.c_ast.specs.Trees.{expression};
 ghost use Rattle.src_meaning.specs.ValidTypes.{is_integer};
+ghost use Rattle.src_meaning.specs.Valid.{IsValidExpression};
 ghost use Rattle.lu_filter.specs.Filters.{Spells, Denotes, IsFilter, Refuses};
 
 use crate::FilterError;
@@ -31,9 +32,10 @@ fn spelled(alloc: Global, program: &Program, text: &[u8]) -> Result<Expr, Filter
     }
 }
 
-/// The typed expression that a text denotes.
+/// The typed expression that a text denotes, which is valid.
 fn denoted(alloc: Global, program: &Program, text: &[u8]) -> Result<TypedExpr, FilterError>
     ensures read { IfOk result (Denotes program.now text.now) }
+    ensures valid { IfOk result (IsValidExpression program.now) }
     ensures refused { IfErr result (Refuses program.now text.now) }
 {
     let e = spelled(alloc, program, text)?;
@@ -52,7 +54,7 @@ fn is_integer(program: &Program, ty: TyId) -> bool
     )
 }
 
-/// The filter that a text is in a program: an expression of an integer type in the scope of all globals, functions and
+/// The filter that a text is in a program: a valid expression of an integer type in the scope of all globals, functions and
 /// built-in functions. Else why it is none.
 pub fn read_filter(alloc: Global, program: &Program, text: &str) -> Result<TypedExpr, FilterError>
     ensures filter { IfOk result (IsFilter program.now text.now) }
@@ -62,6 +64,6 @@ pub fn read_filter(alloc: Global, program: &Program, text: &str) -> Result<Typed
     if is_integer(program, filter.ty) {
         Ok(filter)
     } else {
-        Err(FilterError::NotInteger)
+        Err(FilterError::NotInt)
     }
 }

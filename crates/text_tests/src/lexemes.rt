@@ -46,8 +46,8 @@ fn answer(alloc: Global, text: &[u8]) -> Result<String, AllocError> {
             }
             Ok(all)
         }
-        Err(LexError::BadByte { line, column }) => format!(in alloc; "byte {line} {column}"),
-        Err(LexError::BadNumber { line, column }) => format!(in alloc; "number {line} {column}"),
+        Err(LexError::BadByte { line, col }) => format!(in alloc; "byte {line} {col}"),
+        Err(LexError::BadNumber { line, col }) => format!(in alloc; "number {line} {col}"),
         Err(LexError::Memory) => format!(in alloc; "memory"),
     }
 }
