@@ -1,8 +1,8 @@
--- How a process that stands for a store comes to another, and to an end.
+-- How instructions lead from a process that stands for a store to another, to a trap, or to a result.
 use Rattle.std.specs.Prelude.{◌≡◌, ℕ, ◌+◌, List, [], ◌∷◌, Some, Ok, Err, slice_get}
 use Rattle.lu_base.specs.Sending.{Sent}
 use Rattle.lu_base.specs.declared.trap.Trap.{Trap}
-use Rattle.lu_base.specs.declared.trap.Trap.TheVariants.{BadCode}
+use Rattle.lu_base.specs.declared.trap.Trap.TheVariants.{BadCode, Budget}
 use Rattle.src_tree.specs.declared.value.Store.{Store}
 use Rattle.src_tree.specs.declared.program.Program.{Program}
 use Rattle.src_meaning.specs.Objects.{Gives}
@@ -10,8 +10,9 @@ use Rattle.bm_isa.specs.declared.instr.Instr.{Instr}
 use Rattle.bm_code.specs.declared.code.MachineCode.{MachineCode}
 use Rattle.lu_base.specs.declared.world.World.{World}
 use Rattle.bm_code.specs.Process.{Activity, Process}
-use Rattle.bm_code.specs.Transfers.{idle}
-use Rattle.bm_code.specs.Run.{Final, final, Trapped, RunsTo}
+use Rattle.bm_code.specs.Transfers.{Effect, Spends, Traps, idle}
+use Rattle.bm_code.specs.Step.{step_instruction}
+use Rattle.bm_code.specs.Steps.{Steps}
 use Rattle.cg_state.specs.Represents.{process_of}
 
 -- not the trap of ill-formed code
@@ -34,25 +35,34 @@ pub record Point : Type 0 where
 abbrev pub point : Store → List Sent → Activity → ℕ → Point
 point s o a t = record { store = s; sends = o; activity = a; ticks = t }
 
+-- the effect ends the call by the trap, its process as it was: as the instruction traps, or needs a tick that the call lacks
+abbrev pub TrapsBy : Trap → Process → Effect → Type 0
+TrapsBy t p (Traps u q) = (u ≡ t) × (q ≡ idle (Some t) p)
+TrapsBy t p (Spends q) = (t ≡ Budget) × (p.spare ≡ 0)
+TrapsBy t p _ = ⊥
+
 module _ (program : Program) (code : MachineCode) (world : World) where
   abbrev pub process_at : Point → Process
   process_at p = process_of program p.store p.sends p.activity p.ticks
 
-  -- the run from there, with the ticks of the call, ends so
-  pub record Comes (p : Point) (r : Final) : Type 0 where
-    pub run : RunsTo code world p.ticks (process_at p) r
-
-  -- however the run from q ends, the run from p ends so too
+  -- instructions lead from p to q, and spend the ticks between
   pub record Leads (p q : Point) : Type 0 where
-    pub by : (r : Final) → Comes q r → Comes p r
+    pub count : ℕ
+    pub spent : ℕ
+    pub counted : spent + q.ticks ≡ p.ticks
+    pub steps : Steps code world count spent (process_at p) (process_at q)
 
-  -- the run from there ends by a trap, with so many ticks left
+  -- instructions lead from p to a process that has so many ticks left, of those at p; the next one traps
   pub record TrapsAs (p : Point) (t : Trap) (ticks : ℕ) : Type 0 where
+    pub count : ℕ
+    pub spent : ℕ
+    pub counted : spent + ticks ≡ p.ticks
     pub process : Process
     pub spare : process.spare ≡ ticks
-    pub comes : Comes p (final (Trapped t) (idle (Some t) process))
+    pub steps : Steps code world count spent (process_at p) process
+    pub traps : TrapsBy t process (step_instruction code world process)
 
-  -- the run from there comes to where a result is given, which is good, or traps as the text does
+  -- instructions lead from there to where a result is given, which is good, or to a trap as the text does
   abbrev pub Yields : {A : Type 0} → Point → (A → Type 0) → (A → Point) → Gives A → Type 0
   Yields p good to (Ok a) = good a × Leads p (to a)
   Yields p good to (Err t) = IsPlain t × TrapsAs p t p.ticks
