@@ -1,0 +1,3 @@
+pub mod CallEnds
+pub mod Compiled
+pub mod Simulation
