@@ -1,0 +1,5 @@
+pub mod Accepts
+pub mod ByteLemmas
+pub mod CodeLemmas
+pub mod InitialLengths
+pub mod Rules

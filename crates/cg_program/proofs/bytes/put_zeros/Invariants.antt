@@ -1,0 +1,5 @@
+use Rattle.std.proofs.Common.{◌≡◌, ◌++◌, replicate}
+use Rattle.cg_program.proofs.bytes.put_zeros.Given as goal
+
+abbrev pub invariant-loop-index : goal.invariant-loop-index
+invariant-loop-index l = l.bytes.items ≡ l.initial.bytes.items ++ replicate l._index 0

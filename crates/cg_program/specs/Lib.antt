@@ -1,0 +1,4 @@
+pub mod Compiled
+pub mod Codes
+pub mod Parts
+pub mod Refusals
