@@ -1,0 +1,11 @@
+pub mod Changes
+pub mod Growth
+pub mod Each
+pub mod OwnMail
+pub mod Turns
+pub mod Events
+pub mod Boots
+pub mod Runs
+pub mod Names
+pub mod Orders
+pub mod Replays
