@@ -87,7 +87,8 @@ abbrev pub store_with : Store → Place → Value → Gives Store
 store_with store at v =
     or_trap BadCode (then_option (slice_get store.objects at.object) (λ x. then_option x.elements (λ elements. then_option (with_element_part elements at.path v) (λ changed. Some (with_object store at.object (with_elements x (Some changed)))))))
 
--- the place of type t to which a pointer goes: the object is live and has such a place there outside unions
+-- the place of type t to which a pointer goes: the object is live and has such a place there outside unions; that the search
+-- finds just the path of such a place, which is at most one: c_types' `find_place-path`, `find_place-sound` and `one-place`
 abbrev pub target_in : Parts → ℕ → ℕ → ℕ → Object → Option Place
 target_in p t object offset x =
     if is_live x then option_map (place object) (find_place p x.elem x.count offset t) else None
