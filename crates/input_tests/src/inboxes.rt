@@ -54,3 +54,30 @@ fn holds_nothing_back_while_inactive(rt: HostRuntime) -> Result<(), Memory> {
     assert_eq!(&rt; inbox.next(&hold), None);
     Ok(())
 }
+
+/// So many messages of a held kind, from two clients by turns.
+fn held(alloc: Global, count: usize) -> Result<Inbox, Memory> {
+    let mut inbox = Inbox::fresh(alloc);
+    for n in 0..count {
+        let client = if n % 2 == 0 { 100 } else { 101 };
+        inbox.push(message(client, 1))?;
+    }
+    Ok(inbox)
+}
+
+// Each call looks at two messages alone, so that this takes no longer than the pushes.
+#[test]
+fn fifty_thousand_held_messages_are_looked_over_as_often(rt: HostRuntime) -> Result<(), Memory> {
+    let alloc = rt.alloc();
+    let kinds = vec![in alloc; 1]?;
+    let hold = Hold {
+        active: true,
+        kinds: Sequence::from_vec(kinds),
+    };
+    let inbox = held(alloc, 50_000)?;
+    assert!(&rt; inbox.len() == 50_000);
+    for _ in 0..50_000 {
+        assert_eq!(&rt; inbox.next(&hold), None);
+    }
+    Ok(())
+}
