@@ -7,7 +7,7 @@ ghost use Rattle.bm_objects.specs.Table.{end_of, next_address};
 ghost use Rattle.bm_code.specs.Mapped.{IsMapped, AreKnown};
 ghost use Rattle.bm_run.specs.declared.calls.Mode.TheVariants as M;
 ghost use Rattle.bm_code.specs.Ran.{IsRun};
-ghost use Rattle.bm_code.specs.Services.{is_heap_object, with_object, without_object};
+ghost use Rattle.bm_code.specs.Services.{heap_bytes, is_heap_object, with_object, without_object};
 ghost use Rattle.bm_code.specs.Accepted.{IsAccepted, HasParameters};
 ghost use Rattle.bm_code.specs.Globals.{idle_process, initial_process};
 ghost use Rattle.bm_code.specs.Calls.{is_running, settled, started, with_content, without_sends};
@@ -158,9 +158,8 @@ impl<'a, B: Bytes> Machine<'a, B> {
         sends.clear();
     }
 
-    /// Forgets that the last call trapped.
+    /// Forgets the call that runs, and that the last one trapped.
     pub fn settle(&mut self)
-        requires idle { is_running self.old.process.activity ≡ false }
         ensures { self.new ≡ with_process self.old (settled self.old.process) }
     {
         self.calls.mode = Mode::Idle(None);
@@ -190,11 +189,27 @@ impl<'a, B: Bytes> Machine<'a, B> {
         &self.space.memory
     }
 
-    /// The objects of the process, in order.
+    /// The objects of the process, in order. Exactly the live ones have bytes.
     pub fn objects(&self) -> &Objects
-        ensures { result.now ≡ self.now.process.rows }
+        ensures rows { result.now ≡ self.now.process.rows }
+        ensures mapped { IsMapped self.now.process.content self.now.process.rows }
     {
         &self.space.objects
+    }
+
+    /// The address of the object after all others.
+    pub fn next(&self) -> u64
+        ensures is { result ≡ self.now.process.next }
+        ensures above { All (λ r. end_of r < result) self.now.process.rows }
+    {
+        self.space.next
+    }
+
+    /// How many bytes the live objects of the heap have.
+    pub fn heap_bytes(&self) -> u64
+        ensures { result ≡ heap_bytes self.now.process.rows }
+    {
+        self.space.used
     }
 
     /// What the call sent, in order, each message with the number of its recipient.
