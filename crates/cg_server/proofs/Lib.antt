@@ -1,0 +1,5 @@
+pub mod Bytes
+pub mod Initial
+pub mod Keeps
+pub mod Kept
+pub mod Parameters
