@@ -1,0 +1,9 @@
+use Rattle.std.proofs.Common.{◌≤◌}
+use Rattle.bm_pages.specs.Directory.{pages_in, IsTaken}
+use Rattle.bm_pages.proofs.range.take_range.Given as goal
+
+abbrev pub invariant-loop-number : goal.invariant-loop-number
+invariant-loop-number l = record {
+  in_range : l.first ≤ l.number;
+  taken : IsTaken (pages_in l.fn.directory) (pages_in l.directory) l.first l.number;
+}
