@@ -1,0 +1,2 @@
+pub mod SourceCompiled
+pub mod SourceStarts
