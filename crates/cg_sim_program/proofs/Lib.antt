@@ -1,2 +1,3 @@
+pub mod SlicesEnd
 pub mod SourceCompiled
 pub mod SourceStarts
