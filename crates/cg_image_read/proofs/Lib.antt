@@ -1,0 +1,11 @@
+pub mod NameLemmas
+pub mod Loop
+pub mod Bytes
+pub mod DecodingLemmas
+pub mod Stands
+pub mod ItemsStand
+pub mod TablesStand
+pub mod Again
+pub mod CodeLow
+pub mod WholeAgain
+pub mod Fits
