@@ -30,16 +30,16 @@ use Rattle.lu_image.specs.declared.handler.Handler.{Handler}
 use Rattle.lu_image_store.specs.Versions.{Versions}
 use Rattle.lu_image_store.specs.Handled.{Handles, traps, handled_image, units}
 
-abbrev world : World
+abbrev pub world : World
 world = record { own = pos 1; servers = pos 1 ∷ [] }
 
-abbrev with_handler : Handler → Versions → Versions
+abbrev pub with_handler : Handler → Versions → Versions
 with_handler h m = record m { pairing = record m.pairing { handlers = h ∷ [] } }
 
-abbrev with_last : ℕ → Versions → Versions
+abbrev pub with_last : ℕ → Versions → Versions
 with_last f m = record m { pairing = record m.pairing { after = Some f } }
 
-abbrev expr : ℕ → ExprKind → TypedExpr
+abbrev pub expr : ℕ → ExprKind → TypedExpr
 expr t kind = record { ty = t; kind = kind }
 
 abbrev at : ℕ → PlaceKind → TypedPlace
@@ -49,11 +49,11 @@ abbrev set : TypedPlace → TypedExpr → TypedStmt
 set q e = Assign q (Plain e)
 
 -- struct e { int x; } t[3]
-abbrev old_table : Program
+abbrev pub old_table : Program
 old_table = program (parts (T.Struct 1 ∷ T.Array 3 3 ∷ []) (tag 12 (field 31 0 ∷ []) ∷ []) []) (global 27 4 ∷ []) [] []
 
 -- struct e { int x; int y; } t[3]; struct o { int x; }; void u(struct o *, struct e *) with this body
-abbrev new_table : List TypedStmt → Program
+abbrev pub new_table : List TypedStmt → Program
 new_table body =
     program (parts (T.Struct 1 ∷ T.Array 3 3 ∷ T.Struct 2 ∷ T.Pointer 5 ∷ T.Pointer 3 ∷ []) (tag 12 (field 31 0 ∷ field 32 0 ∷ []) ∷ tag 22 (field 31 0 ∷ []) ∷ []) []) (global 27 4 ∷ []) (record { name = 28; params = 6 ∷ 7 ∷ []; ret = None; locals = []; body = body } ∷ []) []
 
@@ -67,19 +67,19 @@ new_field k = at 0 (Field_of (at 3 (Arrow (expr 7 (Local 1)))) k)
 abbrev divides : List TypedStmt
 divides = set (new_field 0) old_x ∷ set (new_field 1) (expr 0 (Binary B.Divide (expr 0 (Number (pos 10))) old_x)) ∷ []
 
-abbrev doubles : List TypedStmt
+abbrev pub doubles : List TypedStmt
 doubles = set (new_field 0) old_x ∷ set (new_field 1) (expr 0 (Binary B.Add old_x old_x)) ∷ []
 
-abbrev handler : Handler
+abbrev pub handler : Handler
 handler = record { structure = 1; form = 2; function = 0 }
 
-abbrev single : ℕ → Value
+abbrev pub single : ℕ → Value
 single x = Struct (int x ∷ [])
 
-abbrev double : ℕ → ℕ → Value
+abbrev pub double : ℕ → ℕ → Value
 double x y = Struct (int x ∷ int y ∷ [])
 
-abbrev table : List Object
+abbrev pub table : List Object
 table = variable 3 (single 5 ∷ single 0 ∷ single 7 ∷ []) ∷ []
 
 abbrev handled : Program → Handles

@@ -22,9 +22,8 @@ use Rattle.src_meaning.specs.Initial.{initial_store}
 use Rattle.lu_image.specs.declared.rename.Rename.{Rename}
 use Rattle.lu_image.specs.declared.refusal.Why.{Why}
 use Rattle.lu_image.specs.declared.refusal.Kept.{Kept}
-use Rattle.lu_image.specs.declared.pairing.Pairing.{Pairing}
 use Rattle.lu_image.specs.Pairing.{pairing_of}
-use Rattle.lu_image_store.specs.Versions.{Versions}
+use Rattle.lu_image_store.specs.Versions.{Versions, versions_of}
 use Rattle.lu_image_store.specs.Stores.{Makes, store_image}
 
 -- the letters a to z have the numbers 8 to 33
@@ -104,15 +103,8 @@ program types globals functions sites = record {
   sites = sites;
 }
 
-abbrev pub versions_of : Pairing → Versions
-versions_of p = record {
-  pairing = p;
-  old_names = texts;
-  new_names = texts;
-}
-
 abbrev pub versions : Program → Program → List Rename → Versions
-versions old new renames = versions_of (pairing_of old new renames)
+versions old new renames = versions_of old new (pairing_of old new renames)
 
 abbrev pub int : ℕ → Value
 int n = Int (pos n)

@@ -9,6 +9,7 @@ use Rattle.c_types.specs.Numbering.{is_array}
 use Rattle.src_tree.specs.declared.value.ObjectKind.{ObjectKind}
 use Rattle.src_tree.specs.declared.value.ObjectKind.TheVariants.{Global, Heap, Temporary}
 use Rattle.src_tree.specs.declared.value.Object.{Object}
+use Rattle.src_tree.specs.declared.program.Program.{Program}
 use Rattle.src_meaning.specs.Initial.{global_elem, global_count}
 use Rattle.lu_image.specs.declared.pairing.Pairing.{Pairing}
 use Rattle.lu_image.specs.Correspondence.{pair_in, do_pair, corresponds}
@@ -18,6 +19,14 @@ pub record Versions : Type 0 where
   pub pairing : Pairing
   pub old_names : List (List ℕ)
   pub new_names : List (List ℕ)
+
+-- those of two programs under a pairing
+abbrev pub versions_of : Program → Program → Pairing → Versions
+versions_of old new p = record {
+  pairing = p;
+  old_names = old.names;
+  new_names = new.names;
+}
 
 abbrev pub old_types : Versions → Parts
 old_types m = m.pairing.old.types
