@@ -1,0 +1,27 @@
+-- Laws of images, as statements.
+use Rattle.std.specs.Prelude.{◌≡◌, ℕ, ◌<◌, List, length, Result, Ok}
+use Rattle.c_types.specs.declared.parts.Parts.{Parts}
+use Rattle.c_types.specs.declared.path.Step.{Step}
+use Rattle.c_types.specs.Place.{IsPlaceAt}
+use Rattle.c_types.specs.Refusal.{IsBuilt}
+use Rattle.lu_image.specs.declared.refusal.Why.{Why}
+use Rattle.lu_image_store.specs.Versions.{Versions, Extent, old_types}
+use Rattle.lu_image_store.specs.Pointers.{Aim, IsOffsetImage, offset_image}
+use Rattle.lu_image_laws.specs.SamePart.{IsSamePart}
+
+-- at one offset of an object at most one place outside unions has a type
+abbrev pub PlacesAreOne : Type 0
+PlacesAreOne = (p : Parts) (elem count offset t : ℕ) (a b : List Step)
+    → IsBuilt p → elem < length p.types
+    → IsPlaceAt p elem count offset t a → IsPlaceAt p elem count offset t b → a ≡ b
+
+-- what candidates make of an offset is one answer
+abbrev pub ImagesAreOne : Type 0
+ImagesAreOne = (m : Versions) (aim : Aim) (e d : Extent) (offset : ℕ) (a b : Result ℕ Why)
+    → IsOffsetImage m aim e d offset a → IsOffsetImage m aim e d offset b → a ≡ b
+
+-- the image of an offset is at the same part of the object, by each reading of the pointer
+abbrev pub PartsAreKept : Type 0
+PartsAreKept = (m : Versions) (aim : Aim) (e d : Extent) (old new : ℕ)
+    → IsBuilt (old_types m) → e.elem < length (old_types m).types
+    → offset_image m aim e d old ≡ Ok new → IsSamePart m aim e d old new

@@ -1,0 +1,2 @@
+pub mod SamePart
+pub mod Laws
