@@ -1,1 +1,9 @@
 mod Same
+mod Members
+mod Pointed
+mod Typed
+mod Elements
+mod Stores
+mod Shapes
+mod Moved
+mod Images

@@ -4,9 +4,17 @@ use Rattle.c_types.specs.declared.parts.Parts.{Parts}
 use Rattle.c_types.specs.declared.path.Step.{Step}
 use Rattle.c_types.specs.Place.{IsPlaceAt}
 use Rattle.c_types.specs.Refusal.{IsBuilt}
+use Rattle.src_tree.specs.declared.value.Store.{Store}
+use Rattle.src_tree.specs.declared.program.Program.{Program}
+use Rattle.src_meaning.specs.Initial.{initial_store}
+use Rattle.src_meaning.specs.Store.{IsStore}
+use Rattle.src_meaning.specs.Valid.{IsValid}
+use Rattle.lu_image.specs.declared.pairing.Pairing.{Pairing}
 use Rattle.lu_image.specs.declared.refusal.Why.{Why}
 use Rattle.lu_image_store.specs.Versions.{Versions, Extent, old_types}
 use Rattle.lu_image_store.specs.Pointers.{Aim, IsOffsetImage, offset_image}
+use Rattle.lu_image_store.specs.Stores.{store_image}
+use Rattle.lu_image_laws.specs.Between.{between}
 use Rattle.lu_image_laws.specs.SamePart.{IsSamePart}
 
 -- at one offset of an object at most one place outside unions has a type
@@ -25,3 +33,10 @@ abbrev pub PartsAreKept : Type 0
 PartsAreKept = (m : Versions) (aim : Aim) (e d : Extent) (old new : ℕ)
     → IsBuilt (old_types m) → e.elem < length (old_types m).types
     → offset_image m aim e d old ≡ Ok new → IsSamePart m aim e d old new
+
+-- The image of a store is a store of the new program, whatever pairs: its values are of their types, its pointers lead to
+-- objects, and heap and addresses keep their bounds. At the start the new program has a store.
+abbrev pub ImagesAreStores : Type 0
+ImagesAreStores = (old new : Program) (q : Pairing) (s next : Store)
+    → IsBuilt old.types → IsStore old s → IsValid new → IsStore new (initial_store new)
+    → store_image (between old new q) s (initial_store new) ≡ Ok next → IsStore new next
