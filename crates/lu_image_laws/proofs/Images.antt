@@ -1,11 +1,9 @@
 -- The image of a store is a store of the new program.
-use Rattle.std.proofs.Common.{◌≡◌, ◌∙◌, refl, sym, ap, subst, ℕ, zero, suc, ◌+◌, ◌-◌, ◌*◌, ◌<◌, ◌≤◌, Bool, true, false, ◌&&◌, ◌||◌, not, cond, nat_eq, nat_lt, nat_le, if◌then◌else◌, List, [], ◌∷◌, map, length, Option, Some, None, Ok, slice_get, arith}
-use Rattle.std.specs.Prelude.{filter, position, unwrap_or}
+use Rattle.std.proofs.Common.{◌≡◌, ◌∙◌, refl, sym, ap, subst, ℕ, zero, suc, ◌+◌, ◌-◌, ◌*◌, ◌<◌, ◌≤◌, Bool, true, false, ◌&&◌, not, nat_lt, nat_le, if◌then◌else◌, List, [], ◌∷◌, map, length, Option, Some, None, Ok, slice_get, arith}
 use Rattle.std.specs.List.{list_all}
-use Rattle.std.specs.Option.{option_map, option_map_or}
+use Rattle.std.specs.Option.{option_map_or}
 use Rattle.std.proofs.lemmas.Bool.Decides.{nat_tests}
 use Rattle.std.proofs.lemmas.Option.{slice_get_within}
-use Rattle.lu_spec.proofs.ThenLemmas.{then_some}
 use Rattle.lu_base.specs.Addresses as by_size
 use Rattle.lu_base.proofs.AddressLemmas.{after_low}
 use Rattle.c_types.specs.declared.parts.Parts.{Parts}
@@ -13,8 +11,6 @@ use Rattle.c_types.specs.declared.parts.Ty.{Ty}
 use Rattle.c_types.specs.declared.parts.Ty.TheVariants as T
 use Rattle.c_types.specs.Layout.{size_of}
 use Rattle.c_types.specs.Refusal.{IsBuilt}
-use Rattle.src_tree.specs.declared.value.ObjectKind.{ObjectKind}
-use Rattle.src_tree.specs.declared.value.ObjectKind.TheVariants.{Global, Heap, Temporary}
 use Rattle.src_tree.specs.declared.value.Object.{Object}
 use Rattle.src_tree.specs.declared.value.Store.{Store}
 use Rattle.src_tree.specs.declared.program.Global as Text
@@ -28,23 +24,22 @@ use Rattle.src_meaning.specs.Valid.{IsValid, is_few, has_few_entries, has_valid_
 use Rattle.src_meaning.specs.ValidNumbering.{is_numbered}
 use Rattle.src_meaning.specs.ValidNames.{are_names, names_differ}
 use Rattle.src_meaning.proofs.LayoutLengths.{and_left, and_right}
-use Rattle.src_laws.proofs.Extended.{objects_kept, same_shape}
+use Rattle.src_laws.proofs.Extended.{objects_kept}
 use Rattle.src_laws.proofs.Sizes.{size-array}
 use Rattle.src_laws.proofs.StoreParts.{all_get}
 use Rattle.lu_image.specs.declared.pairing.Pairing.{Pairing}
-use Rattle.lu_image.specs.Correspondence.{pair_in}
-use Rattle.lu_image_store.specs.Versions.{Versions, Extent, global_extent, new_extent_in, paired_global}
+use Rattle.lu_image_store.specs.Versions.{Versions}
 use Rattle.lu_image_store.specs.Pointers.{Context}
-use Rattle.lu_image_store.specs.Needed.{is_in, is_object, graph_of, IsNeeded, step, needed_objects}
+use Rattle.lu_image_store.specs.Needed.{is_in, is_object, step, needed_objects}
 use Rattle.lu_image_store.specs.Carried.{carried}
-use Rattle.lu_image_store.specs.Stores.{Makes, is_heap_number, heap_of, context_of, heap_size, first_over, unless_over, move_objects, store_image}
+use Rattle.lu_image_store.specs.Stores.{is_heap_number, heap_of, context_of, heap_size, first_over, move_objects, store_image}
 use Rattle.lu_image_store.proofs.Closure.{needed_objects-are}
 use Rattle.lu_image_laws.specs.Between.{between}
-use Rattle.lu_image_laws.proofs.Members.{get_map}
+use Rattle.lu_image_laws.proofs.Members.{get_map, mapped}
 use Rattle.lu_image_laws.proofs.Pointed.{Lands}
-use Rattle.lu_image_laws.proofs.Shapes.{Stands, shapes_of, position_in}
-use Rattle.lu_image_laws.proofs.Stores.{object_of}
-use Rattle.lu_image_laws.proofs.Moved.{mapped, Fits, sizes_of, all_move}
+use Rattle.lu_image_laws.proofs.Shapes.{shapes_of}
+use Rattle.lu_image_laws.proofs.Placed.{made_within, stands}
+use Rattle.lu_image_laws.proofs.Moved.{Fits, sizes_of, all_move}
 
 -- the rules of a valid program on globals, and on functions and sites
 rules : (p : Program) → IsValid p → (has_valid_globals p ≡ true) × (has_valid_functions p ≡ true)
@@ -125,24 +120,6 @@ within_bound size sum none more (k ∷ ks) total low h = by (nat_lt 4194304 (tot
         let sum_is = more k ks in
         omega (arith, rest, sum_is)
 
-in_filter : (test : ℕ → Bool) (xs : List ℕ) (o : ℕ) → is_in xs o ≡ true → test o ≡ true → is_in (filter test xs) o ≡ true
-in_filter test [] o h g = absurd (cc)
-in_filter test (x ∷ xs) o h g = by (nat_eq x o) (test x) refl refl h (λ h. in_filter test xs o h g)
-  where
-    by : (a b : Bool) → nat_eq x o ≡ a → test x ≡ b → a || is_in xs o ≡ true → (is_in xs o ≡ true → is_in (filter test xs) o ≡ true) → is_in (cond b (x ∷ filter test xs) (filter test xs)) o ≡ true
-    by true true e f h below = ap (λ b. b || is_in (filter test xs) o) e
-    by true false e f h below = let same : x ≡ o = grind (arith, nat_tests, e) in absurd (let q : test o ≡ false = ap test (sym same) ∙ f in cc)
-    by false true e f h below = ap (λ b. b || is_in (filter test xs) o) e ∙ below h
-    by false false e f h below = below h
-
-same_length : {A B C : Type 0} (f : A → B) (g : A → C) (xs : List A) → length (map f xs) ≡ length (map g xs)
-same_length f g [] = refl
-same_length f g (x ∷ xs) = ap suc (same_length f g xs)
-
-made_within : (r : Makes) (o : Option ℕ) (next : Store) → unless_over r o ≡ Ok next → (o ≡ None) × (r ≡ Ok next)
-made_within r None next h = (refl, h)
-made_within r (Some k) next h = absurd (cc)
-
 module _ (old new : Program) (q : Pairing) (s next : Store) (old_built : IsBuilt old.types) (valid : IsValid new) (starts : IsStore new (initial_store new)) (ok : IsStore old s) where
   abbrev m : Versions
   m = between old new q
@@ -175,35 +152,21 @@ module _ (old new : Program) (q : Pairing) (s next : Store) (old_built : IsBuilt
   module _ (moved : move_objects c needed initial ≡ Ok next) where
     -- carried pointers lead to objects that have moved
     lands : (k o : ℕ) → is_in needed k ≡ true → is_in (carried m s k) o ≡ true → Lands m s next c.number o
-    lands k o here leads x d at live is = by x.kind refl
+    lands k o here leads x d at live is = stands old new q s next moved o x d at is later
       where
-        by : (kind : ObjectKind) → x.kind ≡ kind → Stands next (c.number o) d
-        by Temporary kind = absurd (let none : Some d ≡ None = sym is ∙ ap (new_extent_in m o x) kind in cc)
-        by Global kind =
-            let q : option_map (global_extent new.types) (paired_global m o) ≡ Some d = sym (ap (new_extent_in m o x) kind) ∙ is in
-            let u = mapped (global_extent new.types) (paired_global m o) d q in
-            let g = then_some (pair_in m.pairing.globals o) (slice_get (map (λ (d : Text.Global). d.ty) new.globals)) u.0 u.1 in
-            let there = mapped (λ (d : Text.Global). d.ty) (slice_get new.globals g.0) u.0 (sym (get_map (λ (d : Text.Global). d.ty) new.globals g.0) ∙ g.2) in
-            let start = object_of new new.globals initial.objects g.0 there.0 starts.objects there.1 in
-            let y = same_shape initial.objects next.objects g.0 start.0 (shapes_of c needed initial next moved).more start.1 in
-            let earlier : is_heap_number s o ≡ false = ap (λ o. option_map_or (λ (x : Object). not (is_global x.kind)) o false) at ∙ ap (λ kind. not (is_global kind)) kind in
-            let number : c.number o ≡ g.0 = ap (λ b. if b then length m.pairing.new.globals + unwrap_or (position (nat_eq o) heap) 0 else unwrap_or (pair_in m.pairing.globals o) 0) earlier ∙ ap (λ p. unwrap_or p 0) g.1 in
-            let elem : y.object.elem ≡ d.elem = y.elem ∙ (start.2.elem ∙ (ap (global_elem new.types) there.2 ∙ ap (λ (d : Extent). d.elem) u.2)) in
-            let count : y.object.count ≡ d.count = y.count ∙ (start.2.count ∙ (ap (global_count new.types) there.2 ∙ ap (λ (d : Extent). d.count) u.2)) in
-            subst (λ n. Stands next n d) (sym number) (y.object, y.is, elem, count)
-        by (Heap site) kind =
-            let later : is_heap_number s o ≡ true = ap (λ o. option_map_or (λ (x : Object). not (is_global x.kind)) o false) at ∙ ap (λ kind. not (is_global kind)) kind in
-            let heap_live : is_live_heap x ≡ true = ap (λ kind. is_live x && not (is_global kind)) kind ∙ ap (λ b. b && true) live in
-            let follows : is_object s is_live_heap o ≡ true = ap (λ o. option_map_or is_live_heap o false) at ∙ heap_live in
+        follows : is_global x.kind ≡ false → is_object s is_live_heap o ≡ true
+        follows kind = ap (λ o. option_map_or is_live_heap o false) at ∙ (ap (λ b. is_live x && not b) kind ∙ ap (λ b. b && true) live)
+
+        later : is_heap_number s o ≡ true → is_in needed o ≡ true
+        later h =
+            let not_global : not (is_global x.kind) ≡ true = sym (ap (λ o. option_map_or (λ (x : Object). not (is_global x.kind)) o false) at) ∙ h in
             let list = needed_objects-are m s in
             let chain = list.sound k here in
-            let is_needed : IsNeeded (graph_of m s) o = (suc chain.0, step chain.1 leads (slice_get_within s.objects o x at) follows) in
-            let place = position_in heap o (in_filter (is_heap_number s) needed o (list.whole o is_needed) later) in
-            let stands = (shapes_of c needed initial next moved).stands (unwrap_or (position (nat_eq o) heap) 0) o place x d at is in
-            let globals : length initial.objects ≡ length m.pairing.new.globals = same_length (initial_object new) (λ (d : Text.Global). d.ty) new.globals in
-            let number : c.number o ≡ length m.pairing.new.globals + unwrap_or (position (nat_eq o) heap) 0 = ap (λ b. if b then length m.pairing.new.globals + unwrap_or (position (nat_eq o) heap) 0 else unwrap_or (pair_in m.pairing.globals o) 0) later in
-            let both : length initial.objects + unwrap_or (position (nat_eq o) heap) 0 ≡ c.number o = ap (λ n. n + unwrap_or (position (nat_eq o) heap) 0) globals ∙ sym number in
-            subst (λ n. Stands next n d) both stands
+            list.whole o (suc chain.0, step chain.1 leads (slice_get_within s.objects o x at) (follows (by (is_global x.kind) not_global)))
+          where
+            by : (b : Bool) → not b ≡ true → b ≡ false
+            by true h = absurd (cc)
+            by false h = refl
 
     abbrev sum : List ℕ → ℕ
     sum ks = sizes_of old new old_built valid.built sited q s next ok c.number (next_address new.types initial) ks

@@ -6,4 +6,5 @@ mod Elements
 mod Stores
 mod Shapes
 mod Moved
+mod Placed
 mod Images

@@ -1,5 +1,5 @@
 -- What holds of each number of a list, and entries of lists.
-use Rattle.std.proofs.Common.{◌≡◌, refl, ℕ, zero, suc, Bool, true, false, ◌&&◌, ◌||◌, nat_eq, List, [], ◌∷◌, ◌++◌, map, slice_get, arith}
+use Rattle.std.proofs.Common.{◌≡◌, refl, ℕ, zero, suc, Bool, true, false, ◌&&◌, ◌||◌, nat_eq, List, [], ◌∷◌, ◌++◌, map, slice_get, arith, Option, Some, None}
 use Rattle.std.specs.Option.{option_map}
 use Rattle.std.proofs.lemmas.Bool.Decides.{nat_tests}
 use Rattle.c_types.proofs.ChainLemmas.{or_left, or_right}
@@ -39,3 +39,7 @@ get_map f (x ∷ xs) (suc k) = get_map f xs k
 
 pub and_in : (a b : Bool) → a ≡ true → b ≡ true → a && b ≡ true
 and_in a b h g = cc
+
+pub mapped : {A B : Type 0} (f : A → B) (o : Option A) (b : B) → option_map f o ≡ Some b → (a : A) × (o ≡ Some a) × (f a ≡ b)
+mapped f None b h = absurd (cc)
+mapped f (Some a) b h = (a, refl, cc)

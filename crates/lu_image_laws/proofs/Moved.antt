@@ -35,15 +35,11 @@ use Rattle.lu_image_store.specs.Carried
 use Rattle.lu_image_store.specs.Objects.{global_image, heap_image}
 use Rattle.lu_image_store.specs.Stores.{size_in, heap_size, elements_of, declared_pair, put_global, move_global, heap_object, move_heap, move_in, move_object, move_objects}
 use Rattle.lu_image_laws.specs.Between.{between}
-use Rattle.lu_image_laws.proofs.Members.{Each, get_map, and_in, in_right}
+use Rattle.lu_image_laws.proofs.Members.{Each, mapped, get_map, and_in, in_right}
 use Rattle.lu_image_laws.proofs.Pointed.{Lands}
 use Rattle.lu_image_laws.proofs.Elements.{heap_keeps, global_keeps}
 use Rattle.lu_image_laws.proofs.Shapes.{put_global_of, put_heap_of}
 use Rattle.lu_image_laws.proofs.Stores.{IsGlobalObject, object_of, later_object, elements_of_typed, live_has, heap_kept, global_kept, sizes_set, heap_set, heap_more, next_more, objects_more, all_more}
-
-pub mapped : {A B : Type 0} (f : A → B) (o : Option A) (b : B) → option_map f o ≡ Some b → (a : A) × (o ≡ Some a) × (f a ≡ b)
-mapped f None b h = absurd (cc)
-mapped f (Some a) b h = (a, refl, cc)
 
 test_equal : (a b : ℕ) → a ≡ b → nat_eq a b ≡ true
 test_equal a b h = grind (arith, nat_tests, h)

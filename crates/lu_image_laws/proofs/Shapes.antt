@@ -22,6 +22,7 @@ use Rattle.lu_image_store.specs.Objects.{global_image, heap_image}
 use Rattle.lu_image_store.specs.Pointers.{Context}
 use Rattle.lu_image_store.specs.Needed.{is_in}
 use Rattle.lu_image_store.specs.Stores.{is_heap_number, heap_of, with_values, elements_of, declared_pair, put_global, move_global, heap_object, put_heap, move_heap, move_in, move_object, move_objects}
+use Rattle.lu_image_laws.specs.Sharing.{Stands}
 use Rattle.lu_image_laws.proofs.Stores.{get_last, length_more}
 
 -- what a put leaves
@@ -65,10 +66,6 @@ with_values_more cur g ws = by (slice_get cur.objects g) refl
     by : (o : Option Object) → slice_get cur.objects g ≡ o → Extends cur.objects (option_map_or (λ x. with_object cur g (with_elements x (Some ws))) o cur).objects × (length (option_map_or (λ x. with_object cur g (with_elements x (Some ws))) o cur).objects ≡ length cur.objects)
     by None e = (extends_same cur.objects, refl)
     by (Some x) e = (extends_set cur.objects g x (Some ws) e, length_set cur.objects g (with_elements x (Some ws)))
-
--- an object of that extent stands at the number
-abbrev pub Stands : Store → ℕ → Extent → Type 0
-Stands next k d = (y : Object) × (slice_get next.objects k ≡ Some y) × (y.elem ≡ d.elem) × (y.count ≡ d.count)
 
 module _ (c : Context) where
   abbrev m : Versions
@@ -146,6 +143,7 @@ module _ (c : Context) where
   -- after all moves
   pub record Shapes (ks : List ℕ) (cur next : Store) : Type 0 where
     pub more : Extends cur.objects next.objects
+    pub long : length next.objects ≡ length cur.objects + length (heap_of c.store ks)
     pub stands : (i k : ℕ) → slice_get (heap_of c.store ks) i ≡ Some k → (x : Object) (d : Extent) → slice_get c.store.objects k ≡ Some x → new_extent m k x ≡ Some d → Stands next (length cur.objects + i) d
 
   stands_on : (after next : Store) (n : ℕ) (d : Extent) → Extends after.objects next.objects → Stands after n d → Stands next n d
@@ -155,16 +153,21 @@ module _ (c : Context) where
   pub shapes_of : (ks : List ℕ) (cur next : Store) → move_objects c ks cur ≡ Ok next → Shapes ks cur next
   shapes_of [] cur next h =
       let same : cur ≡ next = cc in
-      subst (Shapes [] cur) same (record { more = extends_same cur.objects; stands = λ i k e x d at is. absurd (cc) })
+      subst (Shapes [] cur) same (record { more = extends_same cur.objects; long = omega arith; stands = λ i k e x d at is. absurd (cc) })
   shapes_of (k ∷ ks) cur next h =
       let one = then_ok (move_object c k cur) (move_objects c ks) next h in
       let shape = shape_of k cur one.0 one.1 in
       let rest = shapes_of ks one.0 next one.2 in
       record {
         more = extends_further cur.objects one.0.objects next.objects shape.more rest.more;
+        long = lengths one.0 shape rest (is_later k) refl;
         stands = λ i j e x d at is. by one.0 shape rest (is_later k) refl i j e x d at is;
       }
     where
+      lengths : (after : Store) → Shape k cur after → Shapes ks after next → (b : Bool) → is_later k ≡ b → length next.objects ≡ length cur.objects + length (cond b (k ∷ heap_of c.store ks) (heap_of c.store ks))
+      lengths after shape rest false q = let stays = shape.stays q in let long = rest.long in omega (arith, stays, long)
+      lengths after shape rest true q = let longer = shape.longer q in let long = rest.long in omega (arith, longer, long)
+
       by : (after : Store) → Shape k cur after → Shapes ks after next → (b : Bool) → is_later k ≡ b → (i j : ℕ) → slice_get (cond b (k ∷ heap_of c.store ks) (heap_of c.store ks)) i ≡ Some j → (x : Object) (d : Extent) → slice_get c.store.objects j ≡ Some x → new_extent m j x ≡ Some d → Stands next (length cur.objects + i) d
       by after shape rest false q i j e x d at is =
           subst (λ n. Stands next (n + i) d) (shape.stays q) (rest.stands i j e x d at is)

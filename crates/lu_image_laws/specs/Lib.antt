@@ -1,3 +1,4 @@
 pub mod Between
 pub mod SamePart
+pub mod Sharing
 pub mod Laws
