@@ -1,12 +1,15 @@
 -- The bytes of messages in memory.
-use Rattle.std.proofs.Common.{◌≡◌, ◌∙◌, refl, ap, sym, subst, true, ◌&&◌, ℕ, zero, suc, ◌+◌, ◌-◌, ◌<◌, List, [], ◌∷◌, ◌++◌, length, replicate, drop, get_or, Some, arith, nat_eq}
+use Rattle.std.proofs.Common.{◌≡◌, ◌∙◌, refl, ap, sym, subst, Bool, true, false, cond, ◌&&◌, ℕ, zero, suc, ◌+◌, ◌-◌, ◌<◌, List, [], ◌∷◌, ◌++◌, length, replicate, drop, get_or, Some, None, arith, nat_eq}
 use Rattle.std.specs.Prelude.{ℤ, slice_get, not, is_some}
 use Rattle.std.specs.Option.{option_map_or}
 use Rattle.std.specs.FinMap as map
+use Rattle.std.proofs.lemmas.List.{length-replicate}
 use Rattle.std.proofs.lemmas.Bool.Decides.{nat_tests}
 use Rattle.lu_spec.specs.Splice.{spliced}
 use Rattle.src_meaning.proofs.LayoutLengths.{and_left, and_right}
 use Rattle.bm_mem.specs.Content.{Content, Holds, IsInside, IsWritten}
+use Rattle.bm_mem.proofs.Laws.{mapped}
+use Rattle.bm_frame.proofs.Copying.{insert_twice}
 use Rattle.bm_objects.specs.declared.row.Row.{Row}
 use Rattle.bm_code.specs.Mapped.{HasObject, IsMapped}
 use Rattle.bm_cpu.specs.Words.{word_bytes, words_bytes}
@@ -55,7 +58,7 @@ two_rows [] k h low = absurd (cc)
 two_rows (a ∷ []) k h low = absurd (cc)
 two_rows (a ∷ b ∷ rows) k h low = omega (arith, low)
 
-module _ (m : Content) (rows : List Row) (mapped : IsMapped m rows) (messages : has_messages rows ≡ true) (k : ℕ) (low : k < 2) (r : Row) (at : slice_get rows k ≡ Some r) (piece : List ℕ) (long : length piece ≡ 32) where
+module _ (m : Content) (rows : List Row) (maps : IsMapped m rows) (messages : has_messages rows ≡ true) (k : ℕ) (low : k < 2) (r : Row) (at : slice_get rows k ≡ Some r) (piece : List ℕ) (long : length piece ≡ 32) where
   is_row : is_message_row r ≡ true
   is_row = message_row rows k r messages low at
 
@@ -63,7 +66,7 @@ module _ (m : Content) (rows : List Row) (mapped : IsMapped m rows) (messages : 
   size = let e = and_right (not (is_some r.site)) (nat_eq r.size 32) (and_right r.live (not (is_some r.site) && nat_eq r.size 32) is_row) in grind (arith, nat_tests, e)
 
   object : HasObject m r
-  object = mapped.live k r at (and_left r.live (not (is_some r.site) && nat_eq r.size 32) is_row)
+  object = maps.live k r at (and_left r.live (not (is_some r.site) && nat_eq r.size 32) is_row)
 
   same : length object.0 ≡ length piece
   same = omega (arith, object.2, size, long)
@@ -81,3 +84,27 @@ module _ (m : Content) (rows : List Row) (mapped : IsMapped m rows) (messages : 
       ∙ (ap (λ at. map.insert m r.addr (spliced object.0 at piece)) none
       ∙ (ap (map.insert m r.addr) (whole object.0 piece same)
       ∙ ap (λ o. option_map_or (λ (r : Row). map.insert m r.addr piece) o m) (sym at)))
+
+-- an object that was made zero, and its bytes then
+module _ (m n : Content) (addr size : ℕ) (piece : List ℕ) (made : n ≡ map.insert m addr (replicate size 0)) (long : length piece ≡ size) where
+  zeros_long : length {A = ℕ} (replicate size 0) ≡ length piece
+  zeros_long = length-replicate {A = ℕ} size 0 ∙ sym long
+
+  new_holds : Holds n addr (replicate size 0) addr (length piece)
+  new_holds = mapped m n addr size addr (length piece) made (omega arith) (omega (arith, long))
+
+  pub new_inside : IsInside n addr (length piece)
+  new_inside = (addr, replicate size 0, new_holds)
+
+  pub new_with : (x : Content) → IsWritten n x addr piece → x ≡ map.insert m addr piece
+  new_with x written =
+      let none : addr - addr ≡ 0 = omega arith in
+      written addr (replicate size 0) new_holds
+      ∙ (ap (λ at. map.insert n addr (spliced (replicate size 0) at piece)) none
+      ∙ (ap (map.insert n addr) (whole (replicate size 0) piece zeros_long)
+      ∙ (ap (λ n. map.insert n addr piece) made ∙ insert_twice m addr (replicate size 0) piece)))
+
+-- what a choice gave
+pub chosen : {A : Type 0} (b : Bool) (r x : A) → cond b (Some r) None ≡ Some x → r ≡ x
+chosen true r x e = cc
+chosen false r x e = absurd (cc)

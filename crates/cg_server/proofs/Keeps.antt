@@ -36,7 +36,7 @@ abbrev pub KeepsMessages : List Row → List Row → Type 0
 KeepsMessages before after = has_messages before ≡ true → has_messages after ≡ true
 
 -- one more object
-added : (rows : List Row) (r : Row) → KeepsMessages rows (rows ++ r ∷ [])
+pub added : (rows : List Row) (r : Row) → KeepsMessages rows (rows ++ r ∷ [])
 added [] r h = absurd (cc)
 added (a ∷ []) r h = absurd (cc)
 added (a ∷ b ∷ rows) r h = h
@@ -71,7 +71,7 @@ falsely : {A : Type 0} → true ≡ false → A
 falsely h = absurd (cc)
 
 -- the first rows aren't freed
-freed : (rows : List Row) (a : ℕ) → is_heap_object rows a ≡ true → KeepsMessages rows (killed rows a)
+pub freed : (rows : List Row) (a : ℕ) → is_heap_object rows a ≡ true → KeepsMessages rows (killed rows a)
 freed [] a is h = h
 freed (x ∷ []) a is h = absurd (cc)
 freed (x ∷ y ∷ rows) a is h =

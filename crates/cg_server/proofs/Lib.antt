@@ -1,4 +1,5 @@
 pub mod Bytes
+pub mod DumpLemmas
 pub mod Initial
 pub mod Keeps
 pub mod Kept

@@ -15,7 +15,7 @@ use Rattle.src_meaning.proofs.LayoutLengths.{and_left, and_right}
 use Rattle.bm_code.specs.Accepted.{HasParameters}
 use Rattle.cg_stmt.specs.Functions.{is_signature, signature_number, machine_function, filter_function}
 use Rattle.cg_program.specs.Compiled.{Source, IsSource, target_of, machine_functions, machine_code}
-use Rattle.cg_program.proofs.Rules.{functions_valid, few_functions}
+use Rattle.cg_program.proofs.Rules.{at_most, few_entries, functions_valid, few_functions}
 use Rattle.cg_server.specs.Deliveries.{handler_number, filter_number}
 
 -- the first that passes a test
@@ -167,3 +167,7 @@ module _ (s : Source) (is : IsSource s) where
 
   pub number_low : (word : List ℕ) → handler_number s word ≤ 4096
   number_low word = let low = at_most_all (is_handler p word) p.functions in let all = few in omega (arith, low, all)
+
+  pub few_sites : length p.sites ≤ 4096
+  few_sites =
+      at_most (length p.sites) 4096 (and_right (is_few p.types.unions) _ (and_right (is_few p.types.structs) _ (few_entries p is.valid)))

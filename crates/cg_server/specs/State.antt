@@ -1,4 +1,5 @@
 -- What a server is.
+use Rattle.std.specs.Prelude.{ℤ, List}
 use Rattle.lu_base.specs.declared.world.World.{World}
 use Rattle.bm_code.specs.Process.{Process}
 use Rattle.cg_program.specs.Compiled.{Source}
@@ -8,6 +9,10 @@ pub record ServerState : Type 0 where
   pub process : Process
   pub source : Source
   pub world : World
+
+-- a process of a program at the server of that number, where all servers have these
+abbrev pub server_of : Source → ℤ → List ℤ → Process → ServerState
+server_of s own servers p = record { process = p; source = s; world = record { own = own; servers = servers } }
 
 -- the server with another process
 abbrev pub with_process : ServerState → Process → ServerState

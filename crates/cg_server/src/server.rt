@@ -1,7 +1,8 @@
 // A server: a program's process, with the calls that the kernel makes.
 
-ghost use Rattle.std.specs.Prelude.{◌≡◌, ◌≢◌, ◌<◌, true, false, not, length, IfOk};
+ghost use Rattle.std.specs.Prelude.{◌≡◌, ◌≢◌, ◌<◌, true, false, not, length, ◌++◌, IfOk, OnOk, OnErr};
 ghost use Rattle.std.specs.FinMap.{empty};
+ghost use Rattle.c_types.specs.Layout.{size_of};
 ghost use Rattle.bm_objects.specs.Table.{next_address};
 ghost use Rattle.bm_code.specs.declared.stop.Stop.TheVariants.{Paused};
 ghost use Rattle.bm_code.specs.Accepted.{HasParameters};
@@ -10,18 +11,24 @@ ghost use Rattle.bm_code.specs.Globals.{idle_process, initial_process};
 ghost use Rattle.bm_code.specs.Mapped.{AreKnown, IsMapped};
 ghost use Rattle.cg_program.specs.Compiled.{machine_code};
 ghost use Rattle.cg_server.specs.Deliveries.{IsFiltered, IsServed, begun_delivery, begun_init, filter_answer, is_unfinished};
+ghost use Rattle.cg_server.specs.Dump.{dump_notes};
 ghost use Rattle.cg_server.specs.Messages.{has_messages, without_messages};
-ghost use Rattle.cg_server.specs.State.{with_process};
+ghost use Rattle.cg_server.specs.State.{server_of, with_process};
+ghost use Rattle.cg_server.specs.Temporaries.{placed, without_temporary};
 
+use crate::dump::push_dump;
 use crate::handlers::handler_number;
 use crate::messages::{NO_MESSAGE, message_bytes, put_bytes};
+use crate::temporary::{is_heap_object, put_temporary, temporary_row};
 use bm_code::stop::Stop;
 use bm_cpu::machine::Machine;
 use bm_mem::Bytes;
 use bm_objects::Objects;
+use c_types::TyId;
 use cg_program::code::Code;
 use lu_base::limits::CALL_TICKS;
-use lu_base::{Memory, Message, Trap};
+use lu_base::{Memory, Message, Name, Trap};
+use lu_lines::Notes;
 use std::alloc::Global;
 use std::marker::Model;
 
@@ -75,7 +82,7 @@ impl<'a, B: Bytes> Server<'a, B> {
         mem: B,
     ) -> Result<Self, Memory>
         requires { B.content mem ≡ empty }
-        ensures { IfOk result (λ server. server ≡ record { process = initial_process (machine_code code.now); source = code.now; world = record { own = own; servers = servers.now } }) }
+        ensures { IfOk result (λ server. server ≡ server_of code.now own servers.now (initial_process (machine_code code.now))) }
     {
         let _program = code.program();
         let mut machine = Machine::new(alloc, code.machine(), mem)?;
@@ -100,7 +107,7 @@ impl<'a, B: Bytes> Server<'a, B> {
         requires known { AreKnown code.now.program.types rows }
         requires mapped { IsMapped (B.content mem) rows }
         requires messages { has_messages rows ≡ true }
-        ensures { IfOk result (λ server. server ≡ record { process = idle_process (record { content = B.content mem; rows = rows; next = next_address rows }); source = code.now; world = record { own = own; servers = servers.now } }) }
+        ensures { IfOk result (λ server. server ≡ server_of code.now own servers.now (idle_process (record { content = B.content mem; rows = rows; next = next_address rows }))) }
     {
         let _program = code.program();
         let mut machine = Machine::adopt(alloc, code.machine(), mem, rows)?;
@@ -209,6 +216,54 @@ impl<'a, B: Bytes> Server<'a, B> {
         ensures messages { has_messages self.now.process.rows ≡ true }
     {
         self.machine.objects()
+    }
+
+    /// Puts the note of a dump of the server of that name and a note of each live object, in order, behind the others. On
+    /// `Memory` these are as they were.
+    pub fn dump(&self, alloc: Global, name: &Name, out: &mut Notes) -> Result<(), Memory>
+        requires { is_running self.now.process.activity ≡ false }
+        ensures ok { OnOk result (out.new.list ≡ out.old.list ++ dump_notes name.now self.now.source.program self.now.process) }
+        ensures err { OnErr result (out.new.list ≡ out.old.list) }
+    {
+        let machine = &self.machine;
+        push_dump(
+            alloc,
+            name,
+            self.code.program(),
+            machine.memory(),
+            machine.objects(),
+            out,
+        )
+    }
+
+    /// Makes a temporary heap object of one element with these bytes, and gives its address. There is none, and all is as it
+    /// was, exactly where the heap's bound or the addresses leave no room for it. On `Memory` all is as it was.
+    pub fn place_temp(&mut self, elem: TyId, value: &[u8]) -> Result<Option<u32>, Memory>
+        requires idle { is_running self.old.process.activity ≡ false }
+        requires known { elem < length self.old.source.program.types.types }
+        requires long { length value.now ≡ size_of self.old.source.program.types elem }
+        ensures ok { IfOk result (λ address. (address, self.new.process) ≡ placed self.old.source.program self.old.process elem value.now) }
+        ensures kept { self.new ≡ with_process self.old self.new.process }
+        ensures err { OnErr result (self.new ≡ self.old) }
+    {
+        let used = self.machine.heap_bytes();
+        let next = self.machine.next();
+        let Some(row) = temporary_row(self.code.program(), used, next, elem) else {
+            return Ok(None);
+        };
+        put_temporary(&mut self.machine, row, value)?;
+        Ok(Some(row.addr))
+    }
+
+    /// Takes away the live heap object that begins at the address, as a temporary does that was made there; nothing where
+    /// there is none. It takes no memory.
+    pub fn free_temp(&mut self, addr: u32)
+        requires { is_running self.old.process.activity ≡ false }
+        ensures { self.new ≡ with_process self.old (without_temporary self.old.process addr) }
+    {
+        if is_heap_object(self.machine.objects(), addr) {
+            self.machine.remove(addr);
+        }
     }
 
     /// The code that the server runs. It takes no memory.
