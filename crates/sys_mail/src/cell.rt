@@ -108,6 +108,20 @@ impl Cell {
         &self.inbox
     }
 
+    /// All messages that ever came into the inbox, in order.
+    pub fn arrived(&self) -> &[Message]
+        ensures { result.now ≡ self.now.value.arrived }
+    {
+        self.arrived.as_slice()
+    }
+
+    /// What the server sent, in order, each message with its destination.
+    pub fn sent(&self) -> &[(i32, Message)]
+        ensures { result.now ≡ self.now.value.sent }
+    {
+        self.sent.as_slice()
+    }
+
     /// What happened to the server, in order.
     pub fn history(&self) -> &[Happened]
         ensures { result.now ≡ self.now.value.history }
