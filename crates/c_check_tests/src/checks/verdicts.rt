@@ -32,10 +32,12 @@ pub fn verdict(alloc: Global, text: &str) -> Result<(usize, u32), Fail> {
 pub fn verdict_as(alloc: Global, text: &str, pointer: u32) -> Result<(usize, u32), Fail> {
     let tokens = lex(alloc, text.as_bytes())?;
     let tree = parse(alloc, tokens.as_slice())?;
-    if pointer != 4 && pointer != 8 {
-        return Err("no size of a pointer".into());
-    }
-    named(alloc, text, check_as(alloc, tree.as_slice(), pointer))
+    let checked = match pointer {
+        4 => check_as(alloc, tree.as_slice(), 4),
+        8 => check_as(alloc, tree.as_slice(), 8),
+        _ => return Err("no size of a pointer".into()),
+    };
+    named(alloc, text, checked)
 }
 
 /// The handlers that a text needs, and that a line of a table leaves out.
