@@ -1,6 +1,7 @@
 // Servers from their texts.
 
-ghost use Rattle.std.specs.Prelude.{◌≡◌, true};
+ghost use Rattle.std.specs.Prelude.{◌≡◌, true, IfOk};
+ghost use Rattle.src_meaning.specs.Valid.{IsValid};
 ghost use Rattle.sys_run.specs.Events.{IsWithin};
 
 use c_check::check::check;
@@ -8,7 +9,6 @@ use c_lex::lex;
 use c_parse::program::parse;
 use cg_program::code::Code;
 use cg_program::compiler::compile;
-use cg_program::error::CompileError;
 use lu_base::Name;
 use lu_lines::{Notes, line_of};
 use sqlite_items::Items;
@@ -20,15 +20,24 @@ use sys_run::{Event, ServerCode, System};
 /// A server as a test gives it: its name, its number and its text.
 pub type Text = (&'static str, i32, &'static str);
 
-fn program_of(alloc: Global, text: &str) -> Result<Program, Fail> {
+fn program_of(alloc: Global, text: &str) -> Result<Program, Fail>
+    ensures { IfOk result IsValid }
+{
     let tokens = lex(alloc, text.as_bytes())?;
     let tree = parse(alloc, tokens.as_slice())?;
-    Ok(check(alloc, tree.as_slice())?)
+    match check(alloc, tree.as_slice()) {
+        Ok(program) => Ok(program),
+        Err(_) => Err("the text is refused".into()),
+    }
 }
 
 fn code_of(alloc: Global, text: &str) -> Result<Code, Fail> {
     let program = program_of(alloc, text)?;
-    Ok(compile(alloc, &program, Items::new(alloc))?)
+    let filters = Items::new(alloc);
+    match compile(alloc, &program, filters) {
+        Ok(code) => Ok(code),
+        Err(_) => Err("the program is not compiled".into()),
+    }
 }
 
 /// Whether an event is one of no update, whose server is one of so many.
