@@ -1,9 +1,12 @@
 -- What the parts of an event make, put together.
-use Rattle.std.proofs.Common.{◌≡◌, refl, sym, ◌∙◌, ap, subst, arith, ℕ, suc, ◌<◌, ◌+◌, Bool, true, false, if◌then◌else◌, List, length, Option, Some, None}
+use Rattle.std.proofs.Common.{◌≡◌, refl, sym, ◌∙◌, ap, subst, arith, ℕ, suc, ◌<◌, ◌+◌, Bool, true, false, if◌then◌else◌, List, length, Option, Some, None, ◌++◌}
 use Rattle.std.specs.Prelude.{slice_get, slice_set, IfSome}
 use Rattle.lu_base.specs.declared.limits.TheConstants.{CALL_TICKS}
 use Rattle.lu_base.specs.declared.message.Message.{Message}
+use Rattle.lu_base.specs.declared.trap.Trap.{Trap}
 use Rattle.lu_base.specs.Sending.{Sent}
+use Rattle.lu_lines.specs.Line.{Text}
+use Rattle.lu_lines.specs.declared.note.Note.{Note}
 use Rattle.mk_queue.specs.declared.hold.Hold.{Hold}
 use Rattle.mk_queue.specs.Held.{next_message}
 use Rattle.mk_queue.proofs.NextMessage.{next_message-some}
@@ -12,7 +15,7 @@ use Rattle.sys_world.specs.World.{CellValue, change}
 use Rattle.sys_world.specs.Mail.{without}
 use Rattle.sys_run.specs.declared.runner.Runner.{Runner}
 use Rattle.sys_run.specs.Runs.{Machines, in_hand, is_idle, runner_in_delivery, IsRunBy, server_in_init, runner_after, delivery_mail, init_mail}
-use Rattle.sys_run.specs.Events.{no_hold, take_message, take_at, take_by, take_next, GivesHand, GivesRunner, GivesTicks, BootsIf, BootsBy, IsBooted, AreBooted}
+use Rattle.sys_run.specs.Events.{no_hold, take_message, take_at, take_by, take_next, GivesHand, GivesRunner, GivesTicks, BootsIf, BootsBy, IsBooted, AreBooted, dump_of, dump_at, dump_event}
 
 -- the next message stands in the inbox
 pub next-within : (hold : Hold) (messages : List Message) (o : Option ℕ) → o ≡ next_message hold messages → IfSome o (λ place. place < length messages)
@@ -106,3 +109,15 @@ booted-more count old mid new before one =
     let n : suc count ≡ count + 1 = omega arith in
     let All : ℕ → Type 0 = λ n. AreBooted n old new in
     subst All n (mid, before, one)
+
+-- a server was told
+pub dump-is : (place : ℕ) (w : Machines) (r : Runner) (c : CellValue) (trap : Option Trap) (name : Text) (told : List Note)
+    → slice_get w.runners place ≡ Some r → slice_get w.mail.cells place ≡ Some c → trap ≡ c.trap → name ≡ c.name → told ≡ w.mail.told ++ dump_of r name trap
+    → let is : Machines = record { runners = w.runners; mail = record { cells = w.mail.cells; told = told } } in is ≡ dump_event place w
+dump-is place w r c trap name told at_r at_c dead named is =
+    let with_told : List Note → Machines = λ told. record { runners = w.runners; mail = record { cells = w.mail.cells; told = told } } in
+    let with_notes : List Note → Machines = λ notes. with_told (w.mail.told ++ notes) in
+    ap with_told is
+    ∙ (ap (λ trap. with_notes (dump_of r name trap)) dead
+    ∙ (ap (λ name. with_notes (dump_of r name c.trap)) named
+    ∙ (ap (λ o. with_notes (dump_at (Some r) o)) (sym at_c) ∙ ap (λ o. with_notes (dump_at o (slice_get w.mail.cells place))) (sym at_r))))

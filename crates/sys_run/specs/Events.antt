@@ -1,18 +1,22 @@
 -- What each event makes of the processes, of the cells and of what was told.
-use Rattle.std.specs.Prelude.{◌≡◌, ◌<◌, ℕ, zero, suc, Bool, true, false, List, [], length, Option, Some, None, slice_get, slice_set, if◌then◌else◌}
+use Rattle.std.specs.Prelude.{◌≡◌, ◌<◌, ℕ, zero, suc, Bool, true, false, List, [], length, Option, Some, None, slice_get, slice_set, if◌then◌else◌, ◌∷◌, ◌++◌}
 use Rattle.lu_base.specs.declared.limits.TheConstants.{CALL_TICKS}
 use Rattle.lu_base.specs.declared.message.Message.{Message}
+use Rattle.lu_base.specs.declared.trap.Trap.{Trap}
+use Rattle.lu_lines.specs.Line.{Text}
+use Rattle.lu_lines.specs.declared.note.Note.{Note}
 use Rattle.lu_lines.specs.declared.note.Note.TheVariants as note
 use Rattle.mk_queue.specs.declared.hold.Hold.{Hold}
 use Rattle.mk_queue.specs.Held.{next_message}
 use Rattle.sched_file.specs.declared.event.Event.{Event}
 use Rattle.sched_file.specs.declared.event.Event.TheVariants as event
 use Rattle.bm_code.specs.declared.stop.Stop.{Stop}
+use Rattle.cg_server.specs.Dump.{dump_notes}
 use Rattle.cg_server.specs.State.{ServerState}
 use Rattle.sys_world.specs.World.{CellValue}
 use Rattle.sys_world.specs.Mail.{Mail, put, tells, with_cell_at, without}
 use Rattle.sys_run.specs.declared.runner.Runner.{Runner}
-use Rattle.sys_run.specs.Runs.{Machines, in_hand, is_idle, runner_in_delivery, IsRunBy, server_in_init, runner_after, delivery_mail, init_mail}
+use Rattle.sys_run.specs.Runs.{Machines, runs, in_hand, is_idle, runner_in_delivery, IsRunBy, server_in_init, runner_after, delivery_mail, init_mail}
 
 -- an event of no update, whose server is one of so many
 abbrev pub IsWithin : ℕ → Event → Type 0
@@ -20,7 +24,7 @@ IsWithin count event.Boot = Unit {0}
 IsWithin count (event.Send client server m) = server < count
 IsWithin count (event.Run server ticks) = server < count
 IsWithin count event.Finish = Unit {0}
-IsWithin count (event.Dump server) = ⊥
+IsWithin count (event.Dump server) = server < count
 IsWithin count (event.Update u) = ⊥
 IsWithin count (event.Work u units) = ⊥
 IsWithin count (event.Commit u) = ⊥
@@ -100,13 +104,32 @@ abbrev pub AreBooted : ℕ → Machines → Machines → Type 0
 AreBooted zero old new = new ≡ old
 AreBooted (suc count) old new = (mid : Machines) × AreBooted count old mid × IsBooted count mid new
 
+-- what is told of a server that isn't dead: its live objects, where no call of it runs
+abbrev pub live_dump : Runner → Text → List Note
+live_dump r name = if runs r then note.DumpBusy name ∷ [] else dump_notes name r.server.source.program r.server.process
+
+abbrev pub dump_of : Runner → Text → Option Trap → List Note
+dump_of r name (Some trap) = note.DumpDead name ∷ []
+dump_of r name None = live_dump r name
+
+abbrev pub dump_at : Option Runner → Option CellValue → List Note
+dump_at (Some r) (Some c) = dump_of r c.name c.trap
+dump_at None c = []
+dump_at (Some r) None = []
+
+-- the server at a place is told
+abbrev pub dump_event : ℕ → Machines → Machines
+dump_event place w =
+    let notes = dump_at (slice_get w.runners place) (slice_get w.mail.cells place) in
+    with_mail (λ mail. record { cells = mail.cells; told = mail.told ++ notes }) w
+
 -- what an event of no update makes
 abbrev pub IsStep : Event → Machines → Machines → Type 0
 IsStep event.Boot old new = AreBooted (length old.runners) old new
 IsStep (event.Send client server m) old new = new ≡ with_mail (put server (record m { source = client })) old
 IsStep (event.Run server ticks) old new = GivesTicks server ticks (take_next server old) new
 IsStep event.Finish old new = new ≡ with_mail (tells note.End) old
-IsStep (event.Dump server) old new = ⊥
+IsStep (event.Dump server) old new = new ≡ dump_event server old
 IsStep (event.Update u) old new = ⊥
 IsStep (event.Work u units) old new = ⊥
 IsStep (event.Commit u) old new = ⊥

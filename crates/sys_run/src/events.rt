@@ -4,7 +4,7 @@ ghost use Rattle.std.specs.Prelude.{◌≡◌, length, OnOk};
 ghost use Rattle.sys_run.specs.Runs.{machines_of};
 ghost use Rattle.sys_run.specs.Events.{IsWithin, IsStep};
 
-use crate::kernel::{boot_all, give_ticks, take_next};
+use crate::kernel::{boot_all, dump, give_ticks, take_next};
 use crate::runner::Runner;
 use lu_base::{Memory, Message};
 use lu_lines::{Note, Notes};
@@ -43,11 +43,9 @@ pub fn happen(
             take_next(alloc, runners, cells, *server);
             give_ticks(alloc, runners, cells, out, *server, *ticks)
         }
+        Event::Dump { server } => dump(alloc, runners, cells, out, *server),
         Event::Finish => tell(out, Note::End),
-        Event::Dump { .. }
-        | Event::Update { .. }
-        | Event::Work { .. }
-        | Event::Commit { .. }
-        | Event::Abort { .. } => unreachable!(),
+        Event::Update { .. } | Event::Work { .. } | Event::Commit { .. } | Event::Abort { .. } =>
+            unreachable!(),
     }
 }

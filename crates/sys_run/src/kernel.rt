@@ -1,19 +1,19 @@
 //! What each event makes of the processes and of the cells.
 
-ghost use Rattle.std.specs.Prelude.{◌≡◌, ◌<◌, false, List, length, OnOk, IfOk, IfSome};
+ghost use Rattle.std.specs.Prelude.{◌≡◌, ◌<◌, ◌++◌, false, List, length, OnOk, IfOk, IfSome};
 ghost use Rattle.lu_lines.specs.declared.note.Note.{Note};
 ghost use Rattle.mk_queue.specs.Held.{next_message};
 ghost use Rattle.sys_mail.specs.Room.{mail_of};
 ghost use Rattle.sys_run.specs.Runs.{machines_of, machines_with, delivery_mail, init_mail};
-ghost use Rattle.sys_run.specs.Events.{no_hold, take_next, GivesTicks, IsBooted, AreBooted};
+ghost use Rattle.sys_run.specs.Events.{no_hold, take_next, GivesTicks, IsBooted, AreBooted, live_dump, dump_of, dump_event};
 
 use crate::runner::{Runner, begin, in_hand, is_idle, leave, run, run_init};
 use cg_server::Stop;
-use lu_base::{Memory, Message, Sequence};
-use lu_lines::Notes;
+use lu_base::{Memory, Message, Name, Sequence, Trap};
+use lu_lines::{Note, Notes};
 use mk_queue::Hold;
 use std::alloc::Global;
-use sys_mail::{Cell, boot, die, die_in_delivery, end_delivery};
+use sys_mail::{Cell, boot, die, die_in_delivery, end_delivery, tell};
 
 // The place of the next message of a server that no update holds.
 fn next_of(alloc: Global, cell: &Cell) -> Option<usize>
@@ -149,4 +149,51 @@ pub fn boot_all(
         boot_server(alloc, runners, cells, out, place)?;
     }
     Ok(())
+}
+
+// What is told of a server that isn't dead.
+fn dump_live(alloc: Global, runner: &Runner<'_>, name: &Name, out: &mut Notes) -> Result<(), Memory>
+    ensures { OnOk result (out.new.list ≡ out.old.list ++ live_dump runner.now name.now) }
+{
+    if runner.server.idle() {
+        return runner.server.dump(alloc, name, out);
+    }
+    let server = name.copy(alloc)?;
+    tell(out, Note::DumpBusy { server })
+}
+
+// What is told of a server.
+fn dump_one(
+    alloc: Global,
+    runner: &Runner<'_>,
+    name: &Name,
+    trap: Option<Trap>,
+    out: &mut Notes,
+) -> Result<(), Memory>
+    ensures { OnOk result (out.new.list ≡ out.old.list ++ dump_of runner.now name.now trap) }
+{
+    match trap {
+        None => dump_live(alloc, runner, name, out),
+        Some(_) => {
+            let server = name.copy(alloc)?;
+            tell(out, Note::DumpDead { server })
+        }
+    }
+}
+
+/// The live objects of the server at a place are told, if it isn't dead and no call of it runs.
+pub fn dump(
+    alloc: Global,
+    runners: &[Runner<'_>],
+    cells: &[Cell],
+    out: &mut Notes,
+    place: usize,
+) -> Result<(), Memory>
+    requires runner { place < length runners.now }
+    requires cell { place < length cells.now }
+    ensures { OnOk result (machines_of runners.now cells.now out.new
+        ≡ dump_event place (machines_of runners.now cells.now out.old)) }
+{
+    let cell = &cells[place];
+    dump_one(alloc, &runners[place], cell.name(), cell.trap(), out)
 }

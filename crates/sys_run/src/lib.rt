@@ -6,9 +6,11 @@
 
 mod events;
 mod kernel;
+mod look;
 mod runner;
 mod system;
 
+pub use look::{Answer, Blind, Look};
 pub use lu_base::Memory;
 pub use runner::{Runner, Running};
 pub use sys_world::{Event, Happened};

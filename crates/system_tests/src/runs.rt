@@ -41,6 +41,36 @@ void on_message(void) {
   else { m_out.arg[1] = m_in.type; send(client); }
 }";
 
+const LINKING: &str = "struct node { int v; struct node *next; };
+struct node *mk(int v, struct node *next) {
+  struct node *p = malloc(sizeof(struct node));
+  p->v = v;
+  p->next = next;
+  return p;
+}
+struct node *head;
+void init(void) {
+  struct node *p = mk(3, 0);
+  struct node *q = mk(2, p);
+  struct node *r = mk(1, q);
+  p->next = r;
+  head = r;
+  p = mk(9, 0);
+}
+void on_message(void) { }";
+
+const OBJECTS: &str = "boot cy
+dump cy 7
+object 00001000 m_in 32 -
+object 00001030 m_out 32 -
+object 00001060 head 4 c010
+object 00001080 mk#0:0 8 03000000c010
+object 000010a0 mk#0:1 8 020000008010
+object 000010c0 mk#0:2 8 01000000a010
+object 000010e0 mk#0:3 8 09
+end
+";
+
 fn sent(client: i32, server: usize, kind: i32, first: i32) -> Event {
     let message = Message {
         source: client,
@@ -138,6 +168,35 @@ fn servers_send_to_servers(rt: HostRuntime) -> Result<(), Fail> {
     assert_eq!(rt;
         lines.as_slice(),
         b"boot ask\nboot dz\nreply ask 100 3 25 2\ntrap dz DivZero\nend\n".as_slice()
+    );
+    Ok(())
+}
+
+#[test]
+fn a_dump_shows_the_live_objects(rt: HostRuntime) -> Result<(), Fail> {
+    let alloc = rt.alloc();
+    let events = [Event::Dump { server: 0 }];
+    let lines = transcript(alloc, &[("cy", 1, LINKING)], &events)?;
+    assert_eq!(rt; lines.as_slice(), OBJECTS.as_bytes());
+    Ok(())
+}
+
+#[test]
+fn a_dump_of_a_busy_or_dead_server_shows_no_objects(rt: HostRuntime) -> Result<(), Fail> {
+    let alloc = rt.alloc();
+    let events = [
+        sent(100, 0, 1, 0),
+        run(0, 3),
+        Event::Dump { server: 0 },
+        sent(100, 1, 1, 0),
+        run(1, WHOLE),
+        Event::Dump { server: 1 },
+    ];
+    let texts = [("lo", 1, LOOPING), ("dz", 2, DIVIDING)];
+    let lines = transcript(alloc, &texts, &events)?;
+    assert_eq!(rt;
+        lines.as_slice(),
+        b"boot lo\nboot dz\ndump lo busy\ntrap dz DivZero\ndump dz dead\nend\n".as_slice()
     );
     Ok(())
 }

@@ -46,7 +46,9 @@ fn is_within(event: &Event, count: usize) -> bool
 {
     match event {
         Event::Boot | Event::Finish => true,
-        Event::Send { server, .. } | Event::Run { server, .. } => *server < count,
+        Event::Send { server, .. } | Event::Run { server, .. } | Event::Dump { server } => {
+            *server < count
+        }
         _ => false,
     }
 }
