@@ -1,4 +1,5 @@
 mod SequenceLemmas
-mod TranscriptLemmas
+mod ServerLemmas
+mod RunLemmas
+mod WithinLemmas
 mod TopLemmas
-mod Rows

@@ -1,6 +1,6 @@
 pub mod Sequence
-pub mod Top
-pub mod Transcript
-pub mod World
-pub mod Running
+pub mod Words
+pub mod Told
+pub mod Ran
 pub mod Stops
+pub mod Top

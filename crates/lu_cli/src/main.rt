@@ -1,10 +1,11 @@
 //! Runs servers by an update plan, and prints what their clients see.
 #![tactic(auto)]
 
-mod system;
-#[cfg(test)]
-mod tests;
+mod run;
+mod servers;
 mod top;
+mod words;
+mod write;
 
 use lu_base::{FileShelf, OutSink, Status};
 use std::io::ErrorKind;
@@ -13,7 +14,7 @@ use std::{env, io};
 use top::top;
 
 fn main(rt: HostRuntime) -> io::Result<ExitCode> {
-    let status = match words(&rt) {
+    let status = match given_words(&rt) {
         Ok(words) => top(
             rt.alloc(),
             words.as_slice(),
@@ -32,7 +33,7 @@ fn main(rt: HostRuntime) -> io::Result<ExitCode> {
 }
 
 // The words behind the program's name.
-fn words(rt: &HostRuntime) -> io::Result<Vec<String>> {
+fn given_words(rt: &HostRuntime) -> io::Result<Vec<String>> {
     let mut words = Vec::new(rt.alloc());
     for word in env::args(rt)?.skip(1) {
         words.push(word)?;
@@ -43,7 +44,7 @@ fn words(rt: &HostRuntime) -> io::Result<Vec<String>> {
 // What goes to standard error.
 fn message(status: Status) -> Option<&'static str> {
     match status {
-        Status::Usage => Some("usage: lu_cli run PLAN"),
+        Status::Usage => Some("usage: lu_cli run|check|pair PLAN, or lu_cli gen N"),
         Status::ReadFault => Some("read fault"),
         Status::WriteFault => Some("write fault"),
         Status::Memory => Some("out of memory"),
