@@ -2,4 +2,3 @@ mod AcceptedLemmas
 mod GlobalLemmas
 mod Rows
 mod Spaces
-mod WordLemmas

@@ -2,7 +2,6 @@
 //! meaning in bm_code; its other calls change what they name and nothing else.
 #![tactic(auto)]
 
-pub mod first;
 pub mod machine;
 mod objects;
 

@@ -4,7 +4,6 @@
 #![tactic(auto)]
 
 pub mod constant;
-pub mod first;
 mod initial;
 mod integers;
 mod valid;
