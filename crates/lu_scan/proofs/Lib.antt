@@ -1,0 +1,3 @@
+pub mod Carries
+mod Pairs
+mod Steps

@@ -1,0 +1,4 @@
+pub mod Scan
+pub mod Targets
+pub mod Given
+pub mod Laws
