@@ -1,0 +1,5 @@
+mod RowLemmas
+mod Reading
+mod StoreRows
+mod StoreWords
+mod OverStore

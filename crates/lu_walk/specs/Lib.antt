@@ -1,0 +1,5 @@
+pub mod Rows
+pub mod ObjectWords
+pub mod Extents
+pub mod Stands
+pub mod Walking
