@@ -1,0 +1,5 @@
+pub mod Constants
+pub mod Initials
+pub mod Messages
+pub mod Rules
+pub mod Starts
