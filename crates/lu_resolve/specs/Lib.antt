@@ -1,0 +1,4 @@
+pub mod Causes
+pub mod Renames
+pub mod Handlers
+pub mod Updates
