@@ -1,0 +1,4 @@
+pub mod Fitting
+pub mod Along
+pub mod Images
+pub mod Visits
