@@ -2,3 +2,5 @@ pub mod Fitting
 pub mod Along
 pub mod Images
 pub mod Visits
+pub mod Targets
+pub mod Finding

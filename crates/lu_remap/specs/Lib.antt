@@ -1,3 +1,4 @@
 pub mod Descent
 pub mod Fit
 pub mod Held
+pub mod Rows
