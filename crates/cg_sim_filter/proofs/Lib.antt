@@ -1,0 +1,3 @@
+pub mod FilterRuns
+pub mod QuietCode
+pub mod QuietRuns
