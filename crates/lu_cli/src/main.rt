@@ -44,7 +44,7 @@ fn given_words(rt: &HostRuntime) -> io::Result<Vec<String>> {
 // What goes to standard error.
 fn message(status: Status) -> Option<&'static str> {
     match status {
-        Status::Usage => Some("usage: lu_cli run|check|pair PLAN, or lu_cli gen N"),
+        Status::Usage => Some("usage: lu_cli run|check PLAN"),
         Status::ReadFault => Some("read fault"),
         Status::WriteFault => Some("write fault"),
         Status::Memory => Some("out of memory"),
