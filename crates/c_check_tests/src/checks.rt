@@ -1,5 +1,6 @@
 // The checker on whole texts. What is expected of each text comes from the rules.
 
+mod chains;
 mod declared;
 mod limits;
 mod linked_servers;
