@@ -14,7 +14,7 @@ use Rattle.bm_code.specs.declared.stop.Stop.{Stop}
 use Rattle.sys_world.specs.World.{CellValue, change}
 use Rattle.sys_world.specs.Mail.{without}
 use Rattle.sys_run.specs.declared.runner.Runner.{Runner}
-use Rattle.sys_run.specs.Runs.{Machines, in_hand, is_idle, runner_in_delivery, IsRunBy, server_in_init, runner_after, delivery_mail, init_mail}
+use Rattle.sys_run.specs.Runs.{Machines, in_hand, is_idle, runner_in_delivery, IsRunBy, Lasts, server_in_init, runner_after, delivery_mail, init_mail}
 use Rattle.sys_run.specs.Events.{no_hold, take_message, take_at, take_by, take_next, GivesHand, GivesRunner, GivesTicks, BootsIf, BootsBy, IsBooted, AreBooted, dump_of, dump_at, dump_event}
 
 -- the next message stands in the inbox
@@ -56,16 +56,17 @@ take-none place w r c at_r at_c next =
 
 -- the delivery of a message ran
 pub given-is : (place ticks : ℕ) (old new : Machines) (r ran final : Runner) (m : Message) (answer : Stop) (sends : List Sent)
-    → slice_get old.runners place ≡ Some r → in_hand r ≡ Some m → IsRunBy ticks r.server answer ran.server → ran.message ≡ r.message → sends ≡ ran.server.process.outbox
+    → slice_get old.runners place ≡ Some r → in_hand r ≡ Some m → IsRunBy ticks r.server answer ran.server → Lasts answer → ran.message ≡ r.message → sends ≡ ran.server.process.outbox
     → final ≡ runner_after answer ran.server ran.message → new.runners ≡ slice_set old.runners place final → new.mail ≡ delivery_mail place m sends answer old.mail
     → GivesTicks place ticks old new
-given-is place ticks old new r ran final m answer sends at hand run kept sent is runners mail =
+given-is place ticks old new r ran final m answer sends at hand run lasts kept sent is runners mail =
     let Hand : Option Message → Type 0 = λ h. GivesHand place ticks r h old new in
     let Ran : Option Runner → Type 0 = λ o. GivesRunner place ticks o old new in
     subst Ran (sym at) (subst Hand (sym hand) (record {
       answer = answer;
       after = ran.server;
       run = run;
+      lasts = lasts;
       runners = runners ∙ (ap (slice_set old.runners place) is ∙ ap (λ m. slice_set old.runners place (runner_after answer ran.server m)) kept);
       mail = mail ∙ ap (λ sends. delivery_mail place m sends answer old.mail) sent;
     }))
@@ -80,10 +81,10 @@ given-none place ticks w r at hand =
 -- a server ran `init`
 pub booted-is : (place : ℕ) (old new : Machines) (r ran final : Runner) (c : CellValue) (answer : Stop) (sends : List Sent)
     → slice_get old.runners place ≡ Some r → slice_get old.mail.cells place ≡ Some c → is_idle r c ≡ true
-    → IsRunBy CALL_TICKS (server_in_init r.server) answer ran.server → ran.message ≡ r.message → sends ≡ ran.server.process.outbox
+    → IsRunBy CALL_TICKS (server_in_init r.server) answer ran.server → Lasts answer → ran.message ≡ r.message → sends ≡ ran.server.process.outbox
     → final ≡ runner_after answer ran.server ran.message → new.runners ≡ slice_set old.runners place final → new.mail ≡ init_mail place sends answer old.mail
     → IsBooted place old new
-booted-is place old new r ran final c answer sends at_r at_c idle run kept sent is runners mail =
+booted-is place old new r ran final c answer sends at_r at_c idle run lasts kept sent is runners mail =
     let If : Bool → Type 0 = λ b. BootsIf b place r old new in
     let Cell : Option CellValue → Type 0 = λ o. BootsBy place (Some r) o old new in
     let Ran : Option Runner → Type 0 = λ o. BootsBy place o (slice_get old.mail.cells place) old new in
@@ -91,6 +92,7 @@ booted-is place old new r ran final c answer sends at_r at_c idle run kept sent 
       answer = answer;
       after = ran.server;
       run = run;
+      lasts = lasts;
       runners = runners ∙ (ap (slice_set old.runners place) is ∙ ap (λ m. slice_set old.runners place (runner_after answer ran.server m)) kept);
       mail = mail ∙ ap (λ sends. init_mail place sends answer old.mail) sent;
     })))

@@ -16,7 +16,7 @@ use Rattle.cg_server.specs.State.{ServerState}
 use Rattle.sys_world.specs.World.{CellValue}
 use Rattle.sys_world.specs.Mail.{Mail, put, tells, with_cell_at, without}
 use Rattle.sys_run.specs.declared.runner.Runner.{Runner}
-use Rattle.sys_run.specs.Runs.{Machines, runs, in_hand, is_idle, runner_in_delivery, IsRunBy, server_in_init, runner_after, delivery_mail, init_mail}
+use Rattle.sys_run.specs.Runs.{Machines, runs, in_hand, is_idle, runner_in_delivery, IsRunBy, Lasts, server_in_init, runner_after, delivery_mail, init_mail}
 
 -- an event of no update, whose server is one of so many
 abbrev pub IsWithin : ℕ → Event → Type 0
@@ -63,6 +63,7 @@ pub record IsDelivered (place ticks : ℕ) (r : Runner) (m : Message) (old new :
   pub answer : Stop
   pub after : ServerState
   pub run : IsRunBy ticks r.server answer after
+  pub lasts : Lasts answer
   pub runners : new.runners ≡ slice_set old.runners place (runner_after answer after r.message)
   pub mail : new.mail ≡ delivery_mail place m after.process.outbox answer old.mail
 
@@ -83,6 +84,7 @@ pub record RunsInit (place : ℕ) (r : Runner) (old new : Machines) : Type 0 whe
   pub answer : Stop
   pub after : ServerState
   pub run : IsRunBy CALL_TICKS (server_in_init r.server) answer after
+  pub lasts : Lasts answer
   pub runners : new.runners ≡ slice_set old.runners place (runner_after answer after r.message)
   pub mail : new.mail ≡ init_mail place after.process.outbox answer old.mail
 

@@ -58,6 +58,13 @@ pub record IsRunBy (ticks : ℕ) (before : ServerState) (answer : Stop) (after :
   pub run : IsServed before.source before.world ticks before.process answer after.process
   pub kept : after ≡ with_process before after.process
 
+-- memory lasted through the run
+abbrev pub Lasts : Stop → Type 0
+Lasts (stop.Returned word) = Unit {0}
+Lasts (stop.Trapped trap) = Unit {0}
+Lasts stop.Paused = Unit {0}
+Lasts stop.Memory = ⊥
+
 -- with no message in hand, and nothing that waits to leave
 abbrev pub runner_at_rest : ServerState → Runner
 runner_at_rest s = record { server = with_process s (without_sends s.process); message = None }

@@ -4,7 +4,7 @@ ghost use Rattle.std.specs.Prelude.{◌≡◌, ◌<◌, ◌++◌, false, List, l
 ghost use Rattle.lu_lines.specs.declared.note.Note.{Note};
 ghost use Rattle.mk_queue.specs.Held.{next_message};
 ghost use Rattle.sys_mail.specs.Room.{mail_of};
-ghost use Rattle.sys_run.specs.Runs.{machines_of, machines_with, delivery_mail, init_mail};
+ghost use Rattle.sys_run.specs.Runs.{machines_of, machines_with, Lasts, delivery_mail, init_mail};
 ghost use Rattle.sys_run.specs.Events.{no_hold, take_next, GivesTicks, IsBooted, AreBooted, live_dump, dump_of, dump_event};
 
 use crate::runner::{Runner, begin, in_hand, is_idle, leave, run, run_init};
@@ -55,8 +55,9 @@ fn end_run(
     stop: Stop,
 ) -> Result<(), Memory>
     requires { place < length cells.old }
-    ensures { OnOk result (
+    ensures mail { OnOk result (
         mail_of cells.new out.new ≡ delivery_mail place message sends.now stop (mail_of cells.old out.old)) }
+    ensures lasts { OnOk result (Lasts stop) }
 {
     match stop {
         Stop::Returned(_) => end_delivery(alloc, cells, out, place, message, sends),
@@ -100,8 +101,9 @@ fn end_init(
     stop: Stop,
 ) -> Result<(), Memory>
     requires { place < length cells.old }
-    ensures { OnOk result (
+    ensures mail { OnOk result (
         mail_of cells.new out.new ≡ init_mail place sends.now stop (mail_of cells.old out.old)) }
+    ensures lasts { OnOk result (Lasts stop) }
 {
     match stop {
         Stop::Returned(_) => boot(alloc, cells, out, place, sends),

@@ -36,4 +36,4 @@ returns c =
     booted-is place (machines_of rs cs c.args.out.now)
     (machines_of (slice_set (slice_set rs place ran) place c.leave.new.runner) c.end_init.new.cells c.end_init.new.out) r ran c.leave.new.runner x.value
     c.run_init-stop.result c.outbox-sends.result.now (slice_get-get_or rs place c.index-runners-place-2.result within) (value-get cs place c.index-cells-place.result c.requires.cell) idle
-    c.run_init-stop.ensures.run c.run_init-stop.ensures.message sent is (set-set rs place ran c.leave.new.runner) c.in_ok-end_init.ensures
+    c.run_init-stop.ensures.run c.in_ok-end_init.ensures.lasts c.run_init-stop.ensures.message sent is (set-set rs place ran c.leave.new.runner) c.in_ok-end_init.ensures.mail

@@ -22,4 +22,4 @@ returns c =
     given-is place c.args.ticks (machines_of rs c.args.cells.now c.args.out.now)
     (machines_of (slice_set (slice_set rs place ran) place c.leave.new.runner) c.end_run.new.cells c.end_run.new.out) r ran c.leave.new.runner
     c.in-Some.message c.run-stop.result c.outbox-sends.result.now (slice_get-get_or rs place c.index-runners-place-2.result within) hand
-    c.run-stop.ensures.run c.run-stop.ensures.message sent is (set-set rs place ran c.leave.new.runner) c.in_ok-end_run.ensures
+    c.run-stop.ensures.run c.in_ok-end_run.ensures.lasts c.run-stop.ensures.message sent is (set-set rs place ran c.leave.new.runner) c.in_ok-end_run.ensures.mail
