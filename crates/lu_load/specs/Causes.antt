@@ -8,6 +8,12 @@ use Rattle.sched_file.specs.declared.error.SchedError.{SchedError}
 use Rattle.sched_file.specs.declared.error.SchedError.TheVariants as schedule_error
 use Rattle.lu_source.specs.declared.error.SourceError.{SourceError}
 use Rattle.lu_source.specs.declared.error.SourceError.TheVariants as source_error
+use Rattle.lu_filter.specs.declared.error.FilterError.{FilterError}
+use Rattle.lu_filter.specs.declared.error.FilterError.TheVariants as filter_error
+use Rattle.lu_resolve.specs.declared.error.ResolveError.{ResolveError}
+use Rattle.lu_resolve.specs.declared.error.ResolveError.TheVariants as resolve
+use Rattle.lu_load_lines.specs.declared.refusal.FilterRefusal.TheVariants as filter
+use Rattle.lu_load_lines.specs.declared.refusal.LoadRefusal.{LoadRefusal}
 use Rattle.lu_load_lines.specs.declared.refusal.LoadRefusal.TheVariants as of
 use Rattle.lu_load_lines.specs.declared.refusal.PlanRefusal.TheVariants as plan
 use Rattle.lu_load_lines.specs.declared.refusal.ScheduleRefusal.TheVariants as schedule
@@ -42,3 +48,21 @@ abbrev pub IsSourceCause : List ℕ → SourceError → LoadError → Type 0
 IsSourceCause file (source_error.Refused why) e = (e ≡ Refused (of.Source file why)) ⊎ (e ≡ Memory)
 IsSourceCause file source_error.ReadFault e = e ≡ ReadFault
 IsSourceCause file source_error.Memory e = e ≡ Memory
+
+abbrev pub IsRefusedOr : LoadRefusal → LoadError → Type 0
+IsRefusedOr why e = (e ≡ Refused why) ⊎ (e ≡ Memory)
+
+-- the cause that the filter of the update of that name is refused; the name takes memory
+abbrev pub IsFilterCause : List ℕ → FilterError → LoadError → Type 0
+IsFilterCause name (filter_error.BadByte col) e = IsRefusedOr (of.Filter name (filter.BadByte col)) e
+IsFilterCause name (filter_error.BadNumber col) e = IsRefusedOr (of.Filter name (filter.BadNumber col)) e
+IsFilterCause name filter_error.Syntax e = IsRefusedOr (of.Filter name filter.Syntax) e
+IsFilterCause name filter_error.TooDeep e = IsRefusedOr (of.Filter name filter.TooDeep) e
+IsFilterCause name (filter_error.Rule code) e = IsRefusedOr (of.Filter name (filter.Rule code)) e
+IsFilterCause name filter_error.NotInt e = IsRefusedOr (of.Filter name filter.NotInteger) e
+IsFilterCause name filter_error.Memory e = e ≡ Memory
+
+-- the cause that the names of the update of that name are refused
+abbrev pub IsPairingCause : List ℕ → ResolveError → LoadError → Type 0
+IsPairingCause name (resolve.Refused why) e = IsRefusedOr (of.Pairing name why) e
+IsPairingCause name resolve.Memory e = e ≡ Memory

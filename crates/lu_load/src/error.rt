@@ -1,11 +1,13 @@
 // Why no setup is loaded.
 
 ghost use Rattle.std.specs.Prelude.{◌≡◌};
-ghost use Rattle.lu_load.specs.Causes.{plan_file_cause, plan_cause, schedule_file_cause, schedule_cause, IsSourceCause};
+ghost use Rattle.lu_load.specs.Causes.{plan_file_cause, plan_cause, schedule_file_cause, schedule_cause, IsSourceCause, IsRefusedOr, IsFilterCause, IsPairingCause};
 ghost use Rattle.lu_load.specs.declared.error.LoadError.TheVariants as error;
 
 use lu_base::{Memory, Name, ShelfFault};
-use lu_load_lines::{LoadRefusal, PlanRefusal, ScheduleRefusal};
+use lu_filter::FilterError;
+use lu_load_lines::{FilterRefusal, LoadRefusal, PlanRefusal, ScheduleRefusal};
+use lu_resolve::ResolveError;
 use lu_source::SourceError;
 use plan_file::PlanError;
 use sched_file::SchedError;
@@ -96,5 +98,43 @@ pub fn of_source(alloc: Global, file: &Name, error: SourceError) -> LoadError
         },
         SourceError::ReadFault => LoadError::ReadFault,
         SourceError::Memory => LoadError::Memory,
+    }
+}
+
+fn of_filter_refusal(alloc: Global, update: &Name, why: FilterRefusal) -> LoadError
+    ensures { IsRefusedOr (LoadRefusal.Filter update.now why) result }
+{
+    match update.copy(alloc) {
+        Ok(update) => LoadError::Refused(LoadRefusal::Filter { update, why }),
+        Err(_) => LoadError::Memory,
+    }
+}
+
+/// The cause that a text is no filter of the update of that name.
+pub fn of_filter(alloc: Global, update: &Name, error: FilterError) -> LoadError
+    ensures { IsFilterCause update.now error result }
+{
+    let why = match error {
+        FilterError::BadByte { col } => FilterRefusal::BadByte { col },
+        FilterError::BadNumber { col } => FilterRefusal::BadNumber { col },
+        FilterError::Syntax => FilterRefusal::Syntax,
+        FilterError::TooDeep => FilterRefusal::TooDeep,
+        FilterError::Rule { code } => FilterRefusal::Rule { code },
+        FilterError::NotInt => FilterRefusal::NotInteger,
+        FilterError::Memory => return LoadError::Memory,
+    };
+    of_filter_refusal(alloc, update, why)
+}
+
+/// The cause that the names of the update of that name stand for nothing.
+pub fn of_pairing(alloc: Global, update: &Name, error: ResolveError) -> LoadError
+    ensures { IsPairingCause update.now error result }
+{
+    match error {
+        ResolveError::Refused(why) => match update.copy(alloc) {
+            Ok(update) => LoadError::Refused(LoadRefusal::Pairing { update, why }),
+            Err(_) => LoadError::Memory,
+        },
+        ResolveError::Memory => LoadError::Memory,
     }
 }

@@ -9,6 +9,7 @@ use crate::LoadError;
 use crate::plan::load_plan;
 use crate::schedule::load_schedule;
 use crate::source::{load_sources, sources_of};
+use crate::update::{UpdateSetup, load_updates};
 use cg_program::code::Code;
 use lu_base::{Memory, Sequence, Shelf};
 use plan_file::{Plan, Server};
@@ -24,6 +25,8 @@ pub struct Setup {
     /// For each server the code that it begins with, and behind them for each update that of its new version, in the plan's
     /// order. They have no filters.
     pub codes: Sequence<Code>,
+    /// For each update of the plan what it stands for.
+    pub updates: Sequence<UpdateSetup>,
     /// The basic events, at most 100,000.
     pub events: Sequence<Event>,
 }
@@ -46,8 +49,9 @@ fn numbers_of(alloc: Global, plan: &Plan) -> Result<Sequence<i32>, Memory>
     Ok(numbers)
 }
 
-/// Reads the plan of that name, the source of each of its servers, the source of each of its updates, and its schedule, in
-/// this order. No file is read behind one that is refused.
+/// Reads the plan of that name, the source of each of its servers and the source of each of its updates, finds what each update
+/// says of its filter, its renames, its handlers and its last call, and reads the schedule, in this order. No file is read behind
+/// what is refused.
 ///
 /// # Errors
 ///
@@ -62,12 +66,14 @@ pub fn load<S: Shelf>(alloc: Global, name: &str, shelf: &mut S) -> Result<Setup,
     let plan = load_plan(alloc, name, shelf)?;
     let sources = sources_of(alloc, &plan)?;
     let codes = load_sources(alloc, sources.as_slice(), shelf)?;
+    let updates = load_updates(alloc, &plan, codes.as_slice())?;
     let events = load_schedule(alloc, &plan, shelf)?;
     let numbers = numbers_of(alloc, &plan)?;
     Ok(Setup {
         plan,
         numbers,
         codes,
+        updates,
         events,
     })
 }
