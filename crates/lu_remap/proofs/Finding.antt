@@ -1,5 +1,5 @@
 -- The search by address finds the first row that has it.
-use Rattle.std.proofs.Common.{◌≡◌, ◌∙◌, sym, ap, refl, subst, ℕ, zero, suc, ◌+◌, ◌<◌, ◌≤◌, ◌^◌, Bool, true, false, List, [], ◌∷◌, length, get_or, Some, None, slice_get, arith}
+use Rattle.std.proofs.Common.{◌≡◌, ◌∙◌, sym, ap, refl, subst, ℕ, zero, suc, ◌+◌, ◌<◌, ◌≤◌, ◌^◌, Bool, true, false, List, [], ◌∷◌, ◌++◌, take, length, get_or, Some, None, slice_get, arith}
 use Rattle.std.specs.List.{position_from}
 use Rattle.std.proofs.lemmas.Bool.Decides.{nat_tests}
 use Rattle.std.proofs.lemmas.Option.{get_or_from_slice_get}
@@ -63,3 +63,13 @@ pub at_index : (rows : List Row) (k : ℕ) (d : Row) → k < length rows → sli
 at_index [] k d inside = absurd (omega arith)
 at_index (x ∷ rows) zero d inside = refl
 at_index (x ∷ rows) (suc k) d inside = at_index rows k d (omega arith)
+
+take_suc : (rows : List Row) (k : ℕ) (row : Row) → slice_get rows k ≡ Some row → take (suc k) rows ≡ take k rows ++ row ∷ []
+take_suc [] k row at = absurd (cc)
+take_suc (x ∷ rows) zero row at = let same : x ≡ row = cc in ap (λ r. r ∷ []) same
+take_suc (x ∷ rows) (suc k) row at = ap (λ l. x ∷ l) (take_suc rows k row at)
+
+-- one more row
+pub take_next : (rows : List Row) (k : ℕ) (row : Row) → slice_get rows k ≡ Some row → take (k + 1) rows ≡ take k rows ++ row ∷ []
+take_next rows k row at =
+    let next : k + 1 ≡ suc k = omega arith in ap (λ n. take n rows) next ∙ take_suc rows k row at

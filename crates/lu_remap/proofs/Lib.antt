@@ -4,3 +4,5 @@ pub mod Images
 pub mod Visits
 pub mod Targets
 pub mod Finding
+pub mod Sizes
+pub mod Room

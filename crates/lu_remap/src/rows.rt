@@ -36,7 +36,7 @@ pub struct RemapFault {
 }
 
 /// An entry of a list by its number.
-fn nth(types: &[TyId], number: u32) -> Option<TyId>
+pub fn nth(types: &[TyId], number: u32) -> Option<TyId>
     ensures { result ≡ slice_get types.now number }
 {
     match types.get(number as usize) {
@@ -46,7 +46,7 @@ fn nth(types: &[TyId], number: u32) -> Option<TyId>
 }
 
 /// A global of a type.
-fn global_extent(types: &TypeTable, ty: TyId) -> Extent
+pub fn global_extent(types: &TypeTable, ty: TyId) -> Extent
     ensures { extent_of result ≡ global_extent types.now ty }
 {
     match types.parts().find_type(ty) {
