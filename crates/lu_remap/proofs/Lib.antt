@@ -6,3 +6,4 @@ pub mod Targets
 pub mod Finding
 pub mod Sizes
 pub mod Room
+pub mod Numbers

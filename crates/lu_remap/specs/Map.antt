@@ -1,5 +1,9 @@
 -- The addresses of an update.
-use Rattle.std.specs.Prelude.{ℕ, ◌++◌, List}
+use Rattle.std.specs.Prelude.{ℕ, ◌+◌, ◌++◌, nat_eq, List, length, Option, Some, None, slice_get}
+use Rattle.std.specs.List.{position_from}
+use Rattle.std.specs.Option.{option_map}
+use Rattle.lu_spec.specs.Then.{then_option}
+use Rattle.lu_image.specs.Correspondence.{pair_in}
 use Rattle.lu_base.specs.declared.limits.TheConstants.{FIRST_ADDRESS}
 use Rattle.bm_objects.specs.declared.row.Row.{Row}
 use Rattle.lu_image.specs.declared.pairing.Pairing.{Pairing}
@@ -19,3 +23,16 @@ addresses_of p rows needed = record {
   moved = moved_numbers p rows needed;
   new = placed FIRST_ADDRESS (global_shapes p.new ++ heap_shapes p rows needed);
 }
+
+-- the new number of an old object: that of its pair, or its place among the heap objects that move, behind the new globals
+abbrev pub number_of : Addresses → ℕ → Option ℕ → Option ℕ
+number_of map k None = pair_in map.pairing.globals k
+number_of map k (Some site) =
+    option_map (λ i. length map.pairing.new.globals + i) (position_from (nat_eq k) 0 map.moved)
+
+abbrev pub new_number : Addresses → ℕ → Option ℕ
+new_number map k = then_option (slice_get map.old k) (λ r. number_of map k r.site)
+
+-- the address of the image of an old object
+abbrev pub new_address : Addresses → ℕ → Option ℕ
+new_address map k = then_option (new_number map k) (λ j. option_map (λ r. r.addr) (slice_get map.new j))
