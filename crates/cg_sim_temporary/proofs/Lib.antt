@@ -1,0 +1,3 @@
+pub mod Stands
+pub mod Placed
+pub mod Freed
