@@ -6,6 +6,7 @@ use Rattle.std.proofs.lemmas.Bool.Decides.{nat_tests}
 use Rattle.lu_spec.specs.Then.{then_do, then_option}
 use Rattle.lu_base.specs.declared.limits.TheConstants.{CALL_TICKS}
 use Rattle.lu_base.specs.declared.trap.Trap.{Trap}
+use Rattle.lu_base.specs.declared.trap.Trap.TheVariants as trap
 use Rattle.lu_base.specs.declared.trap.Trap.TheVariants.{BadCode, Panic}
 use Rattle.c_types.specs.declared.parts.Ty.{Ty}
 use Rattle.c_types.specs.declared.parts.Ty.TheVariants as T
@@ -15,7 +16,7 @@ use Rattle.src_tree.specs.declared.expr.TypedExpr.{TypedExpr}
 use Rattle.src_tree.specs.declared.program.Program.{Program}
 use Rattle.src_meaning.specs.Objects.{Gives, addresses}
 use Rattle.src_meaning.specs.Operators.{is_true}
-use Rattle.src_meaning.specs.Expression.{value_of}
+use Rattle.src_meaning.specs.Expression.{Scope, value_of}
 use Rattle.src_meaning.specs.Store.{has_type}
 use Rattle.src_meaning.specs.ValidTypes.{ty, is_integer, is_scalar}
 use Rattle.bm_isa.specs.declared.instr.Instr.{Instr}
@@ -53,9 +54,34 @@ use Rattle.cg_sim_expr.proofs.Here.{goes, fails}
 use Rattle.cg_sim_expr.proofs.Matching.{a_scalar, truth_of}
 use Rattle.cg_sim_expr.proofs.Theorem.{expressions_run}
 use Rattle.cg_meaning.specs.Servers.{IsServerOf}
-use Rattle.cg_sim_filter.specs.Filters.{holds_in, as_answer, AnswersFilter, FiltersAnswer}
+use Rattle.cg_sim_filter.specs.Filters.{holds_in, AnswersFilter, FiltersAnswer}
+use Rattle.cg_sim_filter.proofs.NoPanics.{IsOther, NoPanic, conditions, values}
 use Rattle.cg_sim_filter.proofs.QuietCode.{quiet_filter}
 use Rattle.cg_sim_filter.proofs.QuietRuns.{Stays, run_stays, steps_stay, adds_none}
+
+-- a trap as the server reads it where its code traps so
+abbrev as_answer : Gives Bool → Result Bool Trap
+as_answer (Ok b) = Ok b
+as_answer (Err trap) = filter_answer (stop.Trapped trap)
+
+same_answer : (r : Gives Bool) → NoPanic r → as_answer r ≡ r
+same_answer (Ok b) h = refl
+same_answer (Err t) h = by t h
+  where
+    by : (t : Trap) → IsOther t → filter_answer (stop.Trapped t) ≡ Err t
+    by trap.DivZero h = refl
+    by trap.BadShift h = refl
+    by trap.BadIndex h = refl
+    by trap.BadPointer h = refl
+    by trap.PtrRange h = refl
+    by trap.PtrOrder h = refl
+    by trap.UnionMember h = refl
+    by trap.BadCall h = refl
+    by trap.BadFree h = refl
+    by trap.Depth h = refl
+    by trap.Budget h = refl
+    by (trap.Panic n) h = absurd h
+    by trap.BadCode h = refl
 
 length_mapped : {A B : Type 0} (f : A → B) (xs : List A) → length (map f xs) ≡ length xs
 length_mapped f [] = refl
@@ -186,6 +212,11 @@ module _ (s : ServerState) (store : Store) (is : IsServerOf s store) (k : ℕ) (
       rest false =
           leads_traps p code s.world (goes p code s.world number m function_at [] store store [] [] [] [] 999999 (0 + size + 1) (0 + size + 1 + 1) (0 ∷ []) (1 ∷ []) I.Not has_last.1.0 refl) (fails p code s.world number m function_at [] store [] [] 999999 (0 + size + 1 + 1) (1 ∷ []) I.Panic (Panic (pos 1)) has_last.1.1.0 refl)
 
+  no_panic : NoPanic (holds_in p store e)
+  no_panic =
+      let scope : Scope = record { types = p.types; store = store; locals = [] } in
+      conditions (value_of scope e.ty e.kind) (values scope e.ty e.kind)
+
   -- the trap that the filter's code comes to
   record Ends : Type 0 where
     trap_is : Trap
@@ -296,8 +327,10 @@ module _ (s : ServerState) (store : Store) (is : IsServerOf s store) (k : ℕ) (
       let one = one_end code s.world CALL_TICKS begin (final (Run.Trapped u) ran) (final (Run.Trapped ends.trap_is) (idle (Some ends.trap_is) ends.traps.process)) run final_is in
       let ending : Run.Trapped u ≡ Run.Trapped ends.trap_is = ap (λ (r : Final). r.ending) one in
       let same : u ≡ ends.trap_is = cc in
+      let read : answer ≡ holds_in p store e = a ∙ (ap (λ u. filter_answer (stop.Trapped u)) same ∙ (ends.reads ∙ same_answer (holds_in p store e) no_panic)) in
       record {
-        answer_is = a ∙ (ap (λ u. filter_answer (stop.Trapped u)) same ∙ ends.reads);
+        answer_is = read;
+        no_panic = λ n h. subst NoPanic (sym read ∙ h) no_panic;
         server = server_after ran q (stays (final (Run.Trapped u) ran) run) is_q;
       }
   answers answer (stop.Returned v) ran q run a is_q =

@@ -1,3 +1,4 @@
+pub mod NoPanics
 pub mod FilterRuns
 pub mod QuietCode
 pub mod QuietRuns

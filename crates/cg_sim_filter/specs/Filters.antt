@@ -1,16 +1,16 @@
 -- What filters answer, in the terms of the text.
-use Rattle.std.specs.Prelude.{◌≡◌, ℕ, Bool, Result, Ok, Err, Some, [], slice_get}
+use Rattle.std.specs.Prelude.{◌≡◌, ◌≢◌, ℕ, ℤ, Bool, Result, Err, Some, [], slice_get}
 use Rattle.lu_spec.specs.Then.{then_do}
 use Rattle.lu_base.specs.declared.trap.Trap.{Trap}
+use Rattle.lu_base.specs.declared.trap.Trap.TheVariants.{Panic}
 use Rattle.src_tree.specs.declared.expr.TypedExpr.{TypedExpr}
 use Rattle.src_tree.specs.declared.value.Store.{Store}
 use Rattle.src_tree.specs.declared.program.Program.{Program}
 use Rattle.src_meaning.specs.Expression.{value_of}
 use Rattle.src_meaning.specs.Objects.{Gives}
 use Rattle.src_meaning.specs.Operators.{is_true}
-use Rattle.bm_code.specs.declared.stop.Stop.TheVariants as stop
 use Rattle.bm_code.specs.Process.{Process}
-use Rattle.cg_server.specs.Deliveries.{IsFiltered, filter_answer}
+use Rattle.cg_server.specs.Deliveries.{IsFiltered}
 use Rattle.cg_server.specs.State.{ServerState, with_process}
 use Rattle.cg_meaning.specs.Servers.{IsServerOf}
 
@@ -18,14 +18,10 @@ use Rattle.cg_meaning.specs.Servers.{IsServerOf}
 abbrev pub holds_in : Program → Store → TypedExpr → Gives Bool
 holds_in p store e = then_do (value_of (record { types = p.types; store = store; locals = [] }) e.ty e.kind) is_true
 
--- a trap as the server reads it where its code traps so
-abbrev pub as_answer : Gives Bool → Result Bool Trap
-as_answer (Ok b) = Ok b
-as_answer (Err trap) = filter_answer (stop.Trapped trap)
-
--- the answer is what the filter gives in the store, for which the server stands as before
+-- the answer is what the filter gives in the store, never a panic, and the server stands for the store as before
 pub record AnswersFilter (s : ServerState) (store : Store) (e : TypedExpr) (answer : Result Bool Trap) (q : Process) : Type 0 where
-  pub answer_is : answer ≡ as_answer (holds_in s.source.program store e)
+  pub answer_is : answer ≡ holds_in s.source.program store e
+  pub no_panic : (n : ℤ) → answer ≢ Err (Panic n)
   pub server : IsServerOf (with_process s q) store
 
 -- What a filter answers in a server that stands for a store.
